@@ -8,6 +8,8 @@ ghost use lib.ListN.{length};
 ghost use Rattle.blob.specs.Meaning.{Disk, broken, Limited, Reads, ReadKeeps, Writes, SyncWrites, Resizes, Syncs, Starts, Finishes};
 ghost use Rattle.blob.specs.Numbers.{number};
 
+pub mod area;
+
 // Why a blob did not do what it was asked.
 #[derive(Clone, Copy, PartialEq, Eq, Debug)]
 pub enum BlobError {

@@ -10,12 +10,12 @@ ghost use Rattle.blob.specs.Bytes.{part, laid, resized};
 ghost use Rattle.blob.specs.declared.StartedSync.the-variants.{Idle, Done};
 ghost use Rattle.blob.specs.declared.BlobError.the-variants.{NoRoom, BlobInsufficientLength};
 ghost use Rattle.blobs.specs.Flat.{Starts, fresh, flat, images, number};
-use crate::area::clear;
-use crate::area::lay;
 use blob::Blob;
 use blob::BlobError;
 use blob::Readable;
 use blob::StartedSync;
+use blob::area::clear;
+use blob::area::lay;
 
 // The largest limit of any blob, 2^62.
 const MAX_LIMIT: usize = 4611686018427387904;

@@ -1,3 +1,2 @@
 // The blobs that a recorder can stand on.
-pub mod area;
 pub mod flat;

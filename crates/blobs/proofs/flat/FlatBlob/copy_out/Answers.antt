@@ -3,7 +3,7 @@ use Prim.Native.Nat.{_-_}
 use native.Mathlib.Omega.{arith}
 use lib.ListN.{length, take, drop, length-take}
 use Rattle.blob.specs.Bytes.{part}
-use Rattle.blobs.proofs.Halves.{content-part}
+use Rattle.blob.proofs.Areas.{content-part}
 use Rattle.blobs.proofs.flat.FlatBlob.copy_out.Needs as need
 
 pub returns : need.returns

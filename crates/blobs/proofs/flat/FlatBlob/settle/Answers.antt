@@ -1,7 +1,7 @@
 use mathlib.Core.Path.{_≡_, ap₂, sym, _∙_}
 use native.Mathlib.Omega.{arith}
 use Rattle.blobs.specs.Flat.{images}
-use Rattle.blobs.proofs.Halves.{copy-content, copy-durable}
+use Rattle.blob.proofs.Areas.{copy-content, copy-durable}
 use Rattle.blobs.proofs.flat.FlatBlob.settle.Needs as need
 
 pub ghost-self : need.ghost-self

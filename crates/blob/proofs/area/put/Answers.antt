@@ -1,8 +1,8 @@
 use mathlib.Core.Path.{ap, _∙_}
 use native.Mathlib.Omega.{arith}
 use Rattle.blob.specs.Bytes.{laid}
 use Rattle.blob.proofs.Parts.{put-laid}
-use Rattle.blobs.proofs.area.put.Needs as need
+use Rattle.blob.proofs.area.put.Needs as need
 
 pub returns : need.returns
 returns c =

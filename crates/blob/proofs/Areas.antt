@@ -1,4 +1,4 @@
--- What a write, a copy and a resize of the area make of its two halves.
+-- An array that an area of bytes begins with, and what lies behind it, after a write, a resize and a copy.
 use mathlib.Core.Path.{_≡_, refl, sym, ap, _∙_}
 use mathlib.Core.List.{List, [], _∷_, _++_}
 use mathlib.Core.Logic.{_⊎_, inl, inr, ⊎-elim}
@@ -8,23 +8,20 @@ use lib.ListN.{length, getD, take, drop, replicate}
 use lib.Seq.{paste}
 use Rattle.std.proofs.shelf.Lists.{length-append, length-take, length-drop, length-replicate, getD-past, getD-take, getD-drop, take-all}
 use Rattle.std.proofs.shelf.Tests.{cases-lt}
 use Rattle.blob.specs.Bytes.{at, part, laid, resized}
 use Rattle.blob.proofs.Bytes.{length-laid, length-laid-within, at-laid-in, at-laid-below, at-laid-above, at-zeros, length-resized, at-resized, same-bytes}
 
 -- zeros in the gap between an array and a place behind it
 gap-length : (area : List ℕ) (len p : ℕ) → len ≤ length area → p ≤ length area → length (laid area len (replicate (p - len) 0)) ≡ length area
 gap-length area len p h k = length-laid-within area len (replicate (p - len) 0) (simp length-replicate (omega arith))
 
 -- two arrays that agree from a place on, or up to a place
-pub part-same : (x y : List ℕ) (limit n : ℕ) → length x ≡ length y → ((k : ℕ) → limit ≤ k → at x k ≡ at y k) → part x limit n ≡ part y limit n
-part-same x y limit n same each =
-    same-bytes _ _ (simp (length-take, length-drop) (omega arith))
-    (λ k within.
-        let cut = length-take n (drop limit x) in
-        let low : k < n = omega arith in
-        getD-take n (drop limit x) k 0 low ∙ getD-drop limit x k 0 ∙ each (limit + k) (omega arith) ∙ sym (getD-drop limit y k 0) ∙ sym (getD-take n (drop limit y) k 0 low))
+behind-same : (x y : List ℕ) (limit : ℕ) → length x ≡ length y → ((k : ℕ) → limit ≤ k → at x k ≡ at y k) → drop limit x ≡ drop limit y
+behind-same x y limit same each =
+    same-bytes _ _ (simp length-drop (omega arith))
+    (λ k within. getD-drop limit x k 0 ∙ each (limit + k) (omega arith) ∙ sym (getD-drop limit y k 0))
 
-pub front-same : (x y : List ℕ) (n : ℕ) → length x ≡ length y → ((k : ℕ) → k < n → at x k ≡ at y k) → take n x ≡ take n y
+front-same : (x y : List ℕ) (n : ℕ) → length x ≡ length y → ((k : ℕ) → k < n → at x k ≡ at y k) → take n x ≡ take n y
 front-same x y n same each =
     same-bytes _ _ (simp length-take (omega arith))
     (λ k within.
@@ -33,7 +30,7 @@ front-same x y n same each =
         getD-take n x k 0 low ∙ each k low ∙ sym (getD-take n y k 0 low))
 
 -- a part of one array that is a copy of another's front
-pub part-front : (x y : List ℕ) (limit n : ℕ) → limit + n ≤ length x → n ≤ length y → ((k : ℕ) → k < n → at x (limit + k) ≡ at y k) → part x limit n ≡ take n y
+part-front : (x y : List ℕ) (limit n : ℕ) → limit + n ≤ length x → n ≤ length y → ((k : ℕ) → k < n → at x (limit + k) ≡ at y k) → part x limit n ≡ take n y
 part-front x y limit n long short each =
     let left = length-take n (drop limit x) in
     let rest = length-drop limit x in
@@ -87,9 +84,9 @@ module _ (area : List ℕ) (len p : ℕ) (bs : List ℕ) (starts : len ≤ lengt
           getD-take n (laid (laid area len (replicate (p - len) 0)) p bs) k 0 low ∙ lay-at k (omega arith))
 
   -- what lies behind it
-  pub lay-behind : (limit n : ℕ) → len ≤ limit → p + length bs ≤ limit → part (laid (laid area len (replicate (p - len) 0)) p bs) limit n ≡ part area limit n
-  lay-behind limit n low high =
-      part-same _ area limit n lay-length
+  pub lay-behind : (limit : ℕ) → len ≤ limit → p + length bs ≤ limit → drop limit (laid (laid area len (replicate (p - len) 0)) p bs) ≡ drop limit area
+  lay-behind limit low high =
+      behind-same _ area limit lay-length
       (λ k far.
           let zeros = length-replicate {A = ℕ} (p - len) 0 in
           at-laid-above (laid area len (replicate (p - len) 0)) p bs k (omega arith)
@@ -114,9 +111,9 @@ module _ (area : List ℕ) (len n : ℕ) (starts : len ≤ length area) (ends : 
             (cases-lt k len)
           ∙ sym (at-resized (take len area) n k low))
 
-  pub resize-behind : (limit m : ℕ) → len ≤ limit → n ≤ limit → part (laid area len (replicate (n - len) 0)) limit m ≡ part area limit m
-  resize-behind limit m low high =
-      part-same _ area limit m (gap-length area len n starts ends)
+  pub resize-behind : (limit : ℕ) → len ≤ limit → n ≤ limit → drop limit (laid area len (replicate (n - len) 0)) ≡ drop limit area
+  resize-behind limit low high =
+      behind-same _ area limit (gap-length area len n starts ends)
       (λ k far.
           let zeros = length-replicate {A = ℕ} (n - len) 0 in
           at-laid-above area len (replicate (n - len) 0) k (omega arith))
@@ -138,7 +135,7 @@ content-part area len p n within starts =
         ∙ sym (getD-drop p area k 0)
         ∙ sym (getD-take n (drop p area) k 0 low))
 
--- the content copied into the second half
+-- the array copied behind itself
 module _ (area after : List ℕ) (len limit : ℕ) (same : length after ≡ length area) (fits : len ≤ limit) (long : limit + len ≤ length area) (below : (k d : ℕ) → k < limit → getD after k d ≡ getD area k d) (copy : (k d : ℕ) → limit ≤ k → k < limit + (len - 0) → getD after k d ≡ getD area (0 + (k - limit)) d) where
   pub copy-content : take len after ≡ take len area
   copy-content = front-same after area len same (λ k low. below k 0 (omega arith))

@@ -4,10 +4,10 @@ use Prim.Native.Nat.{_-_}
 use native.Mathlib.Omega.{arith}
 use lib.ListN.{length, take, drop, replicate, length-take, length-drop}
 use Rattle.std.proofs.shelf.Lists.{length-replicate}
 use Rattle.blob.specs.Bytes.{laid}
 use Rattle.blob.proofs.Parts.{put-laid}
 use Rattle.blob.proofs.Bytes.{laid-nothing}
-use Rattle.blobs.proofs.area.clear.Needs as need
+use Rattle.blob.proofs.area.clear.Needs as need
 
 pub returns-then-start-end : need.returns-then-start-end
 returns-then-start-end c =

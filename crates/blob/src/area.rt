@@ -1,8 +1,8 @@
-// Writes into the middle of a byte area.
+// Writes into the middle of an area of bytes.
 ghost use mathlib.Core.Path.{_≡_};
 ghost use Prim.Native.Nat.{_+_, _-_, _≤_};
 ghost use lib.ListN.{length, replicate};
 ghost use Rattle.blob.specs.Bytes.{laid};
 
 // Copies `bytes` into the area from `start` on.
 fn put(area: &mut [u8], start: usize, bytes: &[u8])
@@ -14,7 +14,7 @@ fn put(area: &mut [u8], start: usize, bytes: &[u8])
 }
 
 // Fills the area with zeros from `start` up to `end`.
-pub(crate) fn clear(area: &mut [u8], start: usize, end: usize)
+pub fn clear(area: &mut [u8], start: usize, end: usize)
     requires { ⌜ end ≤ length (now area) ⌝ }
     ensures { λ _. ⌜ now (area .exit) ≡ laid (now (area .entry)) start (replicate (end - start) 0) ⌝ }
 {
@@ -24,7 +24,7 @@ pub(crate) fn clear(area: &mut [u8], start: usize, end: usize)
 }
 
 // Puts `bytes` at `start` of the array of `len` bytes that the area begins with, and zeros in a gap before them.
-pub(crate) fn lay(area: &mut [u8], len: usize, start: usize, bytes: &[u8])
+pub fn lay(area: &mut [u8], len: usize, start: usize, bytes: &[u8])
     requires { ⌜ (len ≤ length (now area)) × (start + length (now bytes) ≤ length (now area)) ⌝ }
     ensures { λ _. ⌜ now (area .exit) ≡ laid (laid (now (area .entry)) len (replicate (start - len) 0)) start (now (bytes .entry)) ⌝ }
 {

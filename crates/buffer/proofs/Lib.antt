@@ -1,0 +1,6 @@
+mod Lists
+mod Tips
+mod Stores
+mod Makings
+mod Keeps
+mod Ready

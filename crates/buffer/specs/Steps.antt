@@ -1,0 +1,196 @@
+-- What each call of a writer does: the writer before it, the call's words, its answer, and the writer after
+-- it. A refused call moves nothing.
+use mathlib.Core.Path.{_≡_}
+use mathlib.Core.List.{List}
+use mathlib.Core.Logic.{_⊎_}
+use mathlib.Core.Bool.{Bool, true, false, cond, not, _&&_, _||_}
+use Prim.Native.Nat.{ℕ, _+_, _-_, _^_, _≤_, _<_, min, max}
+use lib.ListN.{length}
+use lib.Dec.{ltb}
+use Rattle.std.specs.declared.result.Result.{Result}
+use Rattle.std.specs.declared.result.Result.the-variants.{Ok, Err}
+use Rattle.blob.specs.Bytes.{laid}
+use Rattle.blob.specs.Meaning.{Disk, ReadKeeps}
+use Rattle.blob.specs.declared.BlobError.the-variants as answers
+use Rattle.buffer.specs.declared.error.Error.{Error}
+use Rattle.buffer.specs.declared.error.Error.the-variants.{BadCapacity, TooManyPieces, BadPiece, OffsetOverflow, NoRoom, BlobInsufficientLength, Closed, DeviceFault}
+use Rattle.buffer.specs.declared.error.Fault.{Fault}
+use Rattle.buffer.specs.declared.error.Step.the-variants.{Read}
+use Rattle.buffer.specs.declared.pieces.Piece.{Piece}
+use Rattle.buffer.specs.declared.tip.Buffer.{Buffer}
+use Rattle.buffer.specs.declared.sync_state.SyncState.{SyncState}
+use Rattle.buffer.specs.declared.sync_state.SyncState.the-variants.{Dirty}
+use Rattle.buffer.specs.Pieces.{SoundList, Offends, total, carries}
+use Rattle.buffer.specs.Tip.{Sized, Within, Beyond, buffered, holding, fresh}
+use Rattle.buffer.specs.Stores.{store, clean}
+use Rattle.buffer.specs.Boxes.{Boxes, boxes, LaysPieces, ResizesBoxes, SyncsBoxes, below, gathered}
+
+pub record State : Type 0 where
+  pub boxes : Boxes
+  pub closed : Bool
+
+-- A writer's record, with its blob as callers know it.
+abbrev pub state : Disk → SyncState → Buffer → Bool → State
+state disk sync tip closed = record { boxes = boxes (store disk sync) tip; closed = closed }
+
+abbrev pub limit : State → ℕ
+limit s = s .boxes .store .disk .limit
+
+-- A writer as its making and its calls leave it. Until a fault closes it, the tip begins inside the content
+-- or at its end, the content ends no later than the tip, and the tip no higher than the limit.
+pub record Fits (s : Boxes) : Type 0 where
+  pub starts : s .tip .offset ≤ length (s .store .disk .content)
+  pub covers : length (s .store .disk .content) ≤ s .tip .offset + s .tip .len
+  pub room : s .tip .offset + s .tip .len ≤ s .store .disk .limit
+
+pub record Ready (s : Boxes) : Type 0 where
+  pub sized : Sized (s .tip)
+  pub small : s .store .disk .limit ≤ 2 ^ 62
+  pub fits : Fits s
+
+pub record Consistent (s : State) : Type 0 where
+  pub sized : Sized (s .boxes .tip)
+  pub small : limit s ≤ 2 ^ 62
+  pub fits : s .closed ≡ false → Fits (s .boxes)
+
+-- The making: an empty tip at the blob's length, and changes that may need a sync.
+abbrev pub capacity : ℕ → ℕ
+capacity n = min (max n 1) 4096
+
+abbrev pub made : Disk → ℕ → State
+made disk n = state disk Dirty (fresh (length (disk .content)) (capacity n)) false
+
+abbrev pub ChecksCapacity : ℕ → Result Unit Error → Type 0
+ChecksCapacity n (Ok _) = (1 ≤ n) × (n ≤ 4096)
+ChecksCapacity n (Err BadCapacity) = (n ≡ 0) ⊎ (4096 < n)
+ChecksCapacity n (Err TooManyPieces) = ⊥
+ChecksCapacity n (Err (BadPiece i)) = ⊥
+ChecksCapacity n (Err OffsetOverflow) = ⊥
+ChecksCapacity n (Err NoRoom) = ⊥
+ChecksCapacity n (Err BlobInsufficientLength) = ⊥
+ChecksCapacity n (Err Closed) = ⊥
+ChecksCapacity n (Err (DeviceFault fault)) = ⊥
+
+-- What every call answers on a closed writer, and what a refusal leaves.
+pub record IsClosed (s t : State) : Type 0 where
+  pub closed : s .closed ≡ true
+  pub same : t ≡ s
+
+pub record Refused (s : State) (Because : Type 0) (t : State) : Type 0 where
+  pub running : s .closed ≡ false
+  pub because : Because
+  pub same : t ≡ s
+
+-- A call that is made: it leaves the writer running, or a fault closes it.
+pub record Runs (s : State) (Admitted : Type 0) (Does : Type 0) (t : State) (closes : Bool) : Type 0 where
+  pub running : s .closed ≡ false
+  pub admitted : Admitted
+  pub does : Does
+  pub after : t .closed ≡ closes
+
+-- write_at: which list and which place it takes.
+pub record Writable (s : State) (n place : ℕ) (ps : List Piece) : Type 0 where
+  pub sound : SoundList n ps
+  pub fits : place + total ps < 2 ^ 64
+  pub room : carries ps ≡ true → place + total ps ≤ limit s
+
+pub record Overflows (n place : ℕ) (ps : List Piece) : Type 0 where
+  pub sound : SoundList n ps
+  pub past : 2 ^ 64 ≤ place + total ps
+
+pub record Crowds (s : State) (n place : ℕ) (ps : List Piece) : Type 0 where
+  pub sound : SoundList n ps
+  pub fits : place + total ps < 2 ^ 64
+  pub filled : carries ps ≡ true
+  pub above : limit s < place + total ps
+
+abbrev pub WriteAt : State → ℕ → List ℕ → List Piece → Result Unit Error → State → Type 0
+WriteAt s place area ps (Ok x) t = Runs s (Writable s (length area) place ps) (LaysPieces area place ps (s .boxes) (Ok x) (t .boxes)) t false
+WriteAt s place area ps (Err BadCapacity) t = ⊥
+WriteAt s place area ps (Err TooManyPieces) t = Refused s (1024 < length ps) t
+WriteAt s place area ps (Err (BadPiece i)) t = Refused s (Offends (length area) ps i) t
+WriteAt s place area ps (Err OffsetOverflow) t = Refused s (Overflows (length area) place ps) t
+WriteAt s place area ps (Err NoRoom) t = Refused s (Crowds s (length area) place ps) t
+WriteAt s place area ps (Err BlobInsufficientLength) t = ⊥
+WriteAt s place area ps (Err Closed) t = IsClosed s t
+WriteAt s place area ps (Err (DeviceFault fault)) t = Runs s (Writable s (length area) place ps) (LaysPieces area place ps (s .boxes) (Err fault) (t .boxes)) t true
+
+-- try_write_at: yes to no bytes at all, and to a run that merges and ends within the limit; else no, and
+-- nothing has moved. A run that ends at or above 2^64 ends above every limit.
+pub record TriesMerge (s : State) (place : ℕ) (run : List ℕ) (t : State) : Type 0 where
+  pub filled : 0 < length run
+  pub room : place + length run ≤ limit s
+  pub within : Within (s .boxes .tip) place (length run)
+  pub does : t ≡ record { boxes = boxes (s .boxes .store) (holding (s .boxes .tip) (laid (buffered (s .boxes .tip)) (place - s .boxes .tip .offset) run)); closed = false }
+
+abbrev pub Unmergeable : State → ℕ → List ℕ → Type 0
+Unmergeable s place run = (0 < length run) × ((limit s < place + length run) ⊎ Beyond (s .boxes .tip) place (length run))
+
+abbrev pub TryWriteAt : State → ℕ → List ℕ → Bool → State → Type 0
+TryWriteAt s place run true t = Refused s (length run ≡ 0) t ⊎ ((s .closed ≡ false) × TriesMerge s place run t)
+TryWriteAt s place run false t = IsClosed s t ⊎ Refused s (Unmergeable s place run) t
+
+abbrev pub ResizeTo : State → ℕ → Result Unit Error → State → Type 0
+ResizeTo s n (Ok x) t = Runs s (n ≤ limit s) (ResizesBoxes n (s .boxes) (Ok x) (t .boxes)) t false
+ResizeTo s n (Err BadCapacity) t = ⊥
+ResizeTo s n (Err TooManyPieces) t = ⊥
+ResizeTo s n (Err (BadPiece i)) t = ⊥
+ResizeTo s n (Err OffsetOverflow) t = ⊥
+ResizeTo s n (Err NoRoom) t = Refused s (limit s < n) t
+ResizeTo s n (Err BlobInsufficientLength) t = ⊥
+ResizeTo s n (Err Closed) t = IsClosed s t
+ResizeTo s n (Err (DeviceFault fault)) t = Runs s (n ≤ limit s) (ResizesBoxes n (s .boxes) (Err fault) (t .boxes)) t true
+
+abbrev pub SyncAll : State → Result Unit Error → State → Type 0
+SyncAll s (Ok x) t = Runs s (Unit {0}) (SyncsBoxes (s .boxes) (Ok x) (t .boxes)) t false
+SyncAll s (Err BadCapacity) t = ⊥
+SyncAll s (Err TooManyPieces) t = ⊥
+SyncAll s (Err (BadPiece i)) t = ⊥
+SyncAll s (Err OffsetOverflow) t = ⊥
+SyncAll s (Err NoRoom) t = ⊥
+SyncAll s (Err BlobInsufficientLength) t = ⊥
+SyncAll s (Err Closed) t = IsClosed s t
+SyncAll s (Err (DeviceFault fault)) t = Runs s (Unit {0}) (SyncsBoxes (s .boxes) (Err fault) (t .boxes)) t true
+
+-- size and needs_sync.
+abbrev pub size : State → ℕ
+size s = cond (s .closed) 0 (s .boxes .tip .offset + s .boxes .tip .len)
+
+abbrev pub needs-sync : State → Bool
+needs-sync s = not (s .closed) && (ltb 0 (s .boxes .tip .len) || not (clean (s .boxes .store .sync)))
+
+-- read_at: the bytes below the tip's offset, if any, come by one read of the blob. Nothing but the output
+-- changes. A fault does not close the writer, and leaves the output.
+pub record InRange (s : State) (place n : ℕ) : Type 0 where
+  pub fits : place + n < 2 ^ 64
+  pub within : place + n ≤ size s
+
+pub record ReadsTip (s : State) (place : ℕ) (out : List ℕ) (t : State) (out′ : List ℕ) : Type 0 where
+  pub none : below (s .boxes .tip) place (length out) ≡ 0
+  pub bytes : out′ ≡ gathered (s .boxes) place (length out)
+  pub same : t ≡ s
+
+pub record ReadsBlob (s : State) (place : ℕ) (out : List ℕ) (t : State) (out′ : List ℕ) : Type 0 where
+  pub some : 0 < below (s .boxes .tip) place (length out)
+  pub bytes : out′ ≡ gathered (s .boxes) place (length out)
+  pub disk : ReadKeeps (s .boxes .store .disk) (Ok tt) (t .boxes .store .disk)
+  pub same : t ≡ state (t .boxes .store .disk) (s .boxes .store .sync) (s .boxes .tip) (s .closed)
+
+pub record ReadFaults (s : State) (place : ℕ) (out : List ℕ) (fault : Fault) (t : State) (out′ : List ℕ) : Type 0 where
+  pub some : 0 < below (s .boxes .tip) place (length out)
+  pub step : fault .step ≡ Read
+  pub at : fault .place ≡ place
+  pub left : out′ ≡ out
+  pub disk : ReadKeeps (s .boxes .store .disk) (Err (answers.DeviceFault (fault .code))) (t .boxes .store .disk)
+  pub same : t ≡ state (t .boxes .store .disk) (s .boxes .store .sync) (s .boxes .tip) (s .closed)
+
+abbrev pub ReadAt : State → ℕ → List ℕ → Result Unit Error → State → List ℕ → Type 0
+ReadAt s place out (Ok _) t out′ = (s .closed ≡ false) × InRange s place (length out) × (ReadsTip s place out t out′ ⊎ ReadsBlob s place out t out′)
+ReadAt s place out (Err BadCapacity) t out′ = ⊥
+ReadAt s place out (Err TooManyPieces) t out′ = ⊥
+ReadAt s place out (Err (BadPiece i)) t out′ = ⊥
+ReadAt s place out (Err OffsetOverflow) t out′ = Refused s (2 ^ 64 ≤ place + length out) t × (out′ ≡ out)
+ReadAt s place out (Err NoRoom) t out′ = ⊥
+ReadAt s place out (Err BlobInsufficientLength) t out′ = Refused s ((place + length out < 2 ^ 64) × (size s < place + length out)) t × (out′ ≡ out)
+ReadAt s place out (Err Closed) t out′ = IsClosed s t × (out′ ≡ out)
+ReadAt s place out (Err (DeviceFault fault)) t out′ = (s .closed ≡ false) × InRange s place (length out) × ReadFaults s place out fault t out′

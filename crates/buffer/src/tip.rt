@@ -1,0 +1,123 @@
+// The tip: the bytes at the end of the capture that have not been passed to the blob yet.
+ghost use mathlib.Core.Path.{_≡_};
+ghost use Prim.Native.Nat.{_+_, _-_, _≤_};
+ghost use Rattle.blob.specs.Bytes.{part};
+ghost use Rattle.buffer.specs.Tip.{Sized, Merges, Drains, Resized, raised, fresh};
+
+use blob::area::clear;
+
+// The most bytes that a tip can hold.
+pub const MAX_CAPACITY: usize = 4096;
+
+pub struct Buffer {
+    // The first `len` of these are buffered.
+    bytes: [u8; 4096],
+    len: usize,
+    // The place of the first buffered byte.
+    offset: u64,
+    capacity: usize,
+}
+
+impl Buffer {
+    // An empty tip at `offset`.
+    pub(crate) fn new(offset: u64, capacity: usize) -> Buffer
+        ensures { λ r. ⌜ r ≡ fresh offset capacity ⌝ }
+    {
+        Buffer {
+            bytes: [0; 4096],
+            len: 0,
+            offset,
+            capacity,
+        }
+    }
+
+    // Where the capture ends, buffered bytes included.
+    pub(crate) fn size(&self) -> u64
+        requires { ⌜ Sized (now self) ⌝ }
+        ensures { λ r. ⌜ r ≡ now (self .entry) .offset + now (self .entry) .len ⌝ }
+    {
+        self.offset + self.len as u64
+    }
+
+    pub(crate) fn is_empty(&self) -> bool
+        ensures { λ r. ⌜ r ≡ Rattle.buffer.specs.Tip.empty (now (self .entry)) ⌝ }
+    {
+        self.len == 0
+    }
+
+    // The place of the first buffered byte.
+    pub(crate) fn offset(&self) -> u64
+        ensures { λ r. ⌜ r ≡ now (self .entry) .offset ⌝ }
+    {
+        self.offset
+    }
+
+    // The held bytes from `start` to `end`.
+    pub(crate) fn slice(&self, start: usize, end: usize) -> &[u8]
+        requires { ⌜ (start ≤ end) × (end ≤ 4096) ⌝ }
+        ensures { λ r. ⌜ now r ≡ part (now (self .entry) .bytes) start (end - start) ⌝ }
+    {
+        &self.bytes[start..end]
+    }
+
+    // Merges the run into the tip where it fits between the offset and the capacity. A gap in the tip
+    // becomes zeros. Answers whether it fitted; where it did not, nothing has changed.
+    pub(crate) fn merge(&mut self, place: u64, run: &[u8]) -> bool
+        requires { ⌜ Sized (now self) ⌝ }
+        ensures { λ r. ⌜ Merges (now (self .entry)) place (now (run .entry)) r (now (self .exit)) ⌝ }
+    {
+        let Some(end) = place.checked_add(run.len() as u64) else {
+            return false;
+        };
+        if place < self.offset || end > self.offset + self.capacity as u64 {
+            return false;
+        }
+        if run.is_empty() {
+            return true;
+        }
+        let start = (place - self.offset) as usize;
+        let end = start + run.len();
+        clear(&mut self.bytes, self.len, start);
+        self.bytes[start..end].copy_from_slice(run);
+        self.len = self.len.max(end);
+        true
+    }
+
+    // Empties the tip: the range that it held, as its offset and its length, unless it was empty. The
+    // offset moves to the range's end. The bytes stay to be read until the next merge.
+    pub(crate) fn take(&mut self) -> Option<(u64, usize)>
+        requires { ⌜ Sized (now self) ⌝ }
+        ensures { λ r. ⌜ Drains (now (self .entry)) r (now (self .exit)) ⌝ }
+    {
+        if self.len == 0 {
+            return None;
+        }
+        let range = (self.offset, self.len);
+        self.offset += self.len as u64;
+        self.len = 0;
+        Some(range)
+    }
+
+    // Fits the tip to a capture of `len` bytes. At or above the size it is emptied and the range that it
+    // held is handed out; inside it is shortened; below it is emptied. The offset of an empty tip is `len`.
+    pub(crate) fn resize(&mut self, len: u64) -> Option<(u64, usize)>
+        requires { ⌜ Sized (now self) ⌝ }
+        ensures { λ r. ⌜ Resized (now (self .entry)) len r (now (self .exit)) ⌝ }
+    {
+        if len < self.size() && len >= self.offset {
+            self.len = (len - self.offset) as usize;
+            return None;
+        }
+        let range = if len < self.offset { None } else { self.take() };
+        self.len = 0;
+        self.offset = len;
+        range
+    }
+
+    // Lifts an offset below `end` to it.
+    pub(crate) fn raise(&mut self, end: u64)
+        ensures { λ _. ⌜ now (self .exit) ≡ raised (now (self .entry)) end ⌝ }
+    {
+        self.offset = self.offset.max(end);
+    }
+}

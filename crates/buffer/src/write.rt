@@ -1,0 +1,139 @@
+// The writer: it gathers the packets of a capture in its tip and passes them to a blob.
+ghost use mathlib.Core.Path.{_≡_};
+ghost use mathlib.Core.Bool.{true, false};
+ghost use Prim.Native.Nat.{_+_, _^_, _≤_, _<_};
+ghost use lib.ListN.{length, take};
+ghost use Rattle.buffer.specs.declared.error.Step.the-variants.{Flush};
+ghost use Rattle.buffer.specs.declared.sync_state.WriteOptions.the-variants.{Plain};
+ghost use Rattle.buffer.specs.Tip.{Beyond};
+ghost use Rattle.buffer.specs.Stores.{StoreWrites};
+ghost use Rattle.buffer.specs.Boxes.{Flushes, WritesRun, PlacesRun, LaysRun};
+ghost use Rattle.buffer.specs.Steps.{Ready, Consistent, ChecksCapacity, made, size, needs-sync};
+ghost use Rattle.buffer.specs.View.{parts, view};
+use crate::error::Error;
+use crate::error::Fault;
+use crate::error::Step;
+use crate::pieces::PieceList;
+use crate::sync_state::SyncState;
+use crate::sync_state::WriteOptions;
+use crate::tip::Buffer;
+use crate::tip::MAX_CAPACITY;
+use blob::Blob;
+
+pub struct Write<B> {
+    blob: B,
+    // The bytes at the end of the capture that the blob does not have yet.
+    buffer: Buffer,
+    sync_state: SyncState,
+    // A fault has closed the writer.
+    closed: bool,
+}
+
+// Whether a writer can be made with a tip of this capacity.
+pub fn check_capacity(capacity: usize) -> Result<(), Error>
+    ensures { λ r. ⌜ ChecksCapacity capacity r ⌝ }
+{
+    if capacity == 0 || capacity > MAX_CAPACITY {
+        return Err(Error::BadCapacity);
+    }
+    Ok(())
+}
+
+impl<B: Blob> Write<B> {
+    // A writer at the end of the blob's content. A capacity that the check refuses becomes the nearest one
+    // that it takes.
+    pub fn new(blob: B, capacity: usize) -> Write<B>
+        ensures made { λ r. ⌜ view disk r ≡ made (disk blob) capacity ⌝ }
+        ensures consistent { λ r. ⌜ Consistent (view disk r) ⌝ }
+    {
+        // No content exceeds the limit, so this is the content's length.
+        let offset = blob.len().min(blob.limit());
+        Write {
+            blob,
+            buffer: Buffer::new(offset, capacity.max(1).min(MAX_CAPACITY)),
+            // What the blob holds may not be durable yet.
+            sync_state: SyncState::Dirty,
+            closed: false,
+        }
+    }
+
+    // The length of the capture, buffered bytes included; 0 once the writer is closed.
+    pub fn size(&self) -> u64
+        requires { ⌜ Consistent (view disk (now self)) ⌝ }
+        ensures { λ r. ⌜ r ≡ size (view disk (now (self .entry))) ⌝ }
+    {
+        if self.closed {
+            return 0;
+        }
+        self.buffer.size()
+    }
+
+    // Whether bytes are buffered or changes of the blob need a sync; no once the writer is closed.
+    pub fn needs_sync(&self) -> bool
+        requires { ⌜ Consistent (view disk (now self)) ⌝ }
+        ensures { λ r. ⌜ r ≡ needs-sync (view disk (now (self .entry))) ⌝ }
+    {
+        !self.closed && (!self.buffer.is_empty() || !self.sync_state.is_clean())
+    }
+
+    // Writes the range that was drained from the tip to the blob.
+    fn write_drained(&mut self, offset: u64, len: usize, options: WriteOptions) -> Result<(), Fault>
+        requires { ⌜ (len ≤ 4096) × (offset + len ≤ disk (now self .blob) .limit) ⌝ }
+        ensures writes { λ r. ⌜ StoreWrites options Flush offset (take len (now (self .entry) .buffer .bytes)) (parts disk (now (self .entry)) .store) r (parts disk (now (self .exit)) .store) ⌝ }
+        ensures tip { λ _. ⌜ now (self .exit) .buffer ≡ now (self .entry) .buffer ⌝ }
+        ensures running { λ _. ⌜ now (self .exit) .closed ≡ now (self .entry) .closed ⌝ }
+    {
+        self.sync_state.write_at(&mut self.blob, offset, self.buffer.slice(0, len), options, Step::Flush)
+    }
+
+    // Empties the tip into the blob.
+    fn flush(&mut self) -> Result<(), Fault>
+        requires { ⌜ Ready (parts disk (now self)) ⌝ }
+        ensures flushes { λ r. ⌜ Flushes Plain (parts disk (now (self .entry))) r (parts disk (now (self .exit))) ⌝ }
+        ensures running { λ _. ⌜ now (self .exit) .closed ≡ now (self .entry) .closed ⌝ }
+    {
+        if let Some((offset, len)) = self.buffer.take() {
+            self.write_drained(offset, len, WriteOptions::Plain)?;
+        }
+        Ok(())
+    }
+
+    // Writes a run past the tip.
+    fn write_directly(&mut self, place: u64, run: &[u8]) -> Result<(), Fault>
+        requires { ⌜ (place + length (now run) ≤ disk (now self .blob) .limit) × (disk (now self .blob) .limit ≤ 2 ^ 62) × Beyond (now self .buffer) place (length (now run)) ⌝ }
+        ensures writes { λ r. ⌜ WritesRun place (now (run .entry)) (parts disk (now (self .entry))) r (parts disk (now (self .exit))) ⌝ }
+        ensures running { λ _. ⌜ now (self .exit) .closed ≡ now (self .entry) .closed ⌝ }
+    {
+        self.sync_state.write_at(&mut self.blob, place, run, WriteOptions::Plain, Step::DirectWrite)?;
+        self.buffer.raise(place + run.len() as u64);
+        Ok(())
+    }
+
+    // Merges a run into the tip, or writes it directly where it does not merge.
+    fn place_run(&mut self, place: u64, run: &[u8]) -> Result<(), Fault>
+        requires { ⌜ Ready (parts disk (now self)) × (place + length (now run) ≤ disk (now self .blob) .limit) ⌝ }
+        ensures places { λ r. ⌜ PlacesRun place (now (run .entry)) (parts disk (now (self .entry))) r (parts disk (now (self .exit))) ⌝ }
+        ensures running { λ _. ⌜ now (self .exit) .closed ≡ now (self .entry) .closed ⌝ }
+    {
+        if self.buffer.merge(place, run) {
+            return Ok(());
+        }
+        self.write_directly(place, run)
+    }
+
+    // Lays a run into the capture.
+    fn lay_run(&mut self, place: u64, run: &[u8]) -> Result<(), Fault>
+        requires { ⌜ Ready (parts disk (now self)) × (place + length (now run) ≤ disk (now self .blob) .limit) ⌝ }
+        ensures lays { λ r. ⌜ LaysRun place (now (run .entry)) (parts disk (now (self .entry))) r (parts disk (now (self .exit))) ⌝ }
+        ensures running { λ _. ⌜ now (self .exit) .closed ≡ now (self .entry) .closed ⌝ }
+    {
+        if self.buffer.merge(place, run) {
+            return Ok(());
+        }
+        if self.buffer.offset() >= place + run.len() as u64 {
+            return self.write_directly(place, run);
+        }
+        self.flush()?;
+        self.place_run(place, run)
+    }
+}
