@@ -4,3 +4,5 @@ mod Stores
 mod Makings
 mod Keeps
 mod Ready
+mod OnePiece
+mod Concluding

@@ -22,7 +22,7 @@ use Rattle.buffer.specs.declared.sync_state.SyncState.{SyncState}
 use Rattle.buffer.specs.declared.sync_state.SyncState.the-variants.{Dirty}
 use Rattle.buffer.specs.Pieces.{SoundList, Offends, total, carries}
 use Rattle.buffer.specs.Tip.{Sized, Within, Beyond, buffered, holding, fresh}
-use Rattle.buffer.specs.Stores.{store, clean}
+use Rattle.buffer.specs.Stores.{store, clean, Outcome}
 use Rattle.buffer.specs.Boxes.{Boxes, boxes, LaysPieces, ResizesBoxes, SyncsBoxes, below, gathered}
 
 pub record State : Type 0 where
@@ -88,6 +88,11 @@ pub record Runs (s : State) (Admitted : Type 0) (Does : Type 0) (t : State) (clo
   pub does : Does
   pub after : t .closed ≡ closes
 
+-- How the outcome of a call becomes its answer, and whether the writer is closed after it.
+abbrev pub Concludes : Outcome → Bool → Result Unit Error → Bool → Type 0
+Concludes (Ok _) before r after = (r ≡ Ok tt) × (after ≡ before)
+Concludes (Err fault) before r after = (r ≡ Err (DeviceFault fault)) × (after ≡ true)
+
 -- write_at: which list and which place it takes.
 pub record Writable (s : State) (n place : ℕ) (ps : List Piece) : Type 0 where
   pub sound : SoundList n ps
@@ -104,16 +109,28 @@ pub record Crowds (s : State) (n place : ℕ) (ps : List Piece) : Type 0 where
   pub filled : carries ps ≡ true
   pub above : limit s < place + total ps
 
+-- Whether the list is refused, n being its area's length. Refusals come in the order of their numbers.
+abbrev pub Admits : State → ℕ → ℕ → List Piece → Result Unit Error → Type 0
+Admits s place n ps (Ok _) = Writable s n place ps
+Admits s place n ps (Err BadCapacity) = ⊥
+Admits s place n ps (Err TooManyPieces) = 1024 < length ps
+Admits s place n ps (Err (BadPiece i)) = Offends n ps i
+Admits s place n ps (Err OffsetOverflow) = Overflows n place ps
+Admits s place n ps (Err NoRoom) = Crowds s n place ps
+Admits s place n ps (Err BlobInsufficientLength) = ⊥
+Admits s place n ps (Err Closed) = ⊥
+Admits s place n ps (Err (DeviceFault fault)) = ⊥
+
 abbrev pub WriteAt : State → ℕ → List ℕ → List Piece → Result Unit Error → State → Type 0
-WriteAt s place area ps (Ok x) t = Runs s (Writable s (length area) place ps) (LaysPieces area place ps (s .boxes) (Ok x) (t .boxes)) t false
+WriteAt s place area ps (Ok x) t = Runs s (Admits s place (length area) ps (Ok x)) (LaysPieces area place ps (s .boxes) (Ok x) (t .boxes)) t false
 WriteAt s place area ps (Err BadCapacity) t = ⊥
-WriteAt s place area ps (Err TooManyPieces) t = Refused s (1024 < length ps) t
-WriteAt s place area ps (Err (BadPiece i)) t = Refused s (Offends (length area) ps i) t
-WriteAt s place area ps (Err OffsetOverflow) t = Refused s (Overflows (length area) place ps) t
-WriteAt s place area ps (Err NoRoom) t = Refused s (Crowds s (length area) place ps) t
+WriteAt s place area ps (Err TooManyPieces) t = Refused s (Admits s place (length area) ps (Err TooManyPieces)) t
+WriteAt s place area ps (Err (BadPiece i)) t = Refused s (Admits s place (length area) ps (Err (BadPiece i))) t
+WriteAt s place area ps (Err OffsetOverflow) t = Refused s (Admits s place (length area) ps (Err OffsetOverflow)) t
+WriteAt s place area ps (Err NoRoom) t = Refused s (Admits s place (length area) ps (Err NoRoom)) t
 WriteAt s place area ps (Err BlobInsufficientLength) t = ⊥
 WriteAt s place area ps (Err Closed) t = IsClosed s t
-WriteAt s place area ps (Err (DeviceFault fault)) t = Runs s (Writable s (length area) place ps) (LaysPieces area place ps (s .boxes) (Err fault) (t .boxes)) t true
+WriteAt s place area ps (Err (DeviceFault fault)) t = Runs s (Admits s place (length area) ps (Ok tt)) (LaysPieces area place ps (s .boxes) (Err fault) (t .boxes)) t true
 
 -- try_write_at: yes to no bytes at all, and to a run that merges and ends within the limit; else no, and
 -- nothing has moved. A run that ends at or above 2^64 ends above every limit.

@@ -4,7 +4,7 @@ ghost use mathlib.Core.Bool.{true};
 ghost use Prim.Native.Nat.{_+_, _≤_};
 ghost use lib.ListN.{length};
 ghost use Rattle.blob.specs.Bytes.{part};
-ghost use Rattle.buffer.specs.Pieces.{inside, carries, Checked, total};
+ghost use Rattle.buffer.specs.Pieces.{inside, run, carries, Checked};
 use crate::error::Error;
 
 // The most pieces of a list.
@@ -64,5 +64,13 @@ impl PieceList<'_> {
             total += piece.len;
         }
         Ok(total)
+    }
+
+    // The bytes of a piece that lies inside the area.
+    pub(crate) fn run(&self, piece: &Piece) -> &[u8]
+        requires { ⌜ inside (length (now (now self .area))) (now piece) ≡ true ⌝ }
+        ensures { λ r. ⌜ now r ≡ run (now (now (self .entry) .area)) (now (piece .entry)) ⌝ }
+    {
+        &self.area[piece.start..piece.start + piece.len]
     }
 }

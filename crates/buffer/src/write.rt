@@ -7,8 +7,8 @@ ghost use Rattle.buffer.specs.declared.error.Step.the-variants.{Flush};
 ghost use Rattle.buffer.specs.declared.sync_state.WriteOptions.the-variants.{Plain};
 ghost use Rattle.buffer.specs.Tip.{Beyond};
 ghost use Rattle.buffer.specs.Stores.{StoreWrites};
-ghost use Rattle.buffer.specs.Boxes.{Flushes, WritesRun, PlacesRun, LaysRun};
-ghost use Rattle.buffer.specs.Steps.{Ready, Consistent, ChecksCapacity, made, size, needs-sync};
+ghost use Rattle.buffer.specs.Boxes.{Flushes, WritesRun, PlacesRun, LaysRun, LaysPieces};
+ghost use Rattle.buffer.specs.Steps.{Ready, Consistent, Writable, Admits, Concludes, WriteAt, ChecksCapacity, made, size, needs-sync};
 ghost use Rattle.buffer.specs.View.{parts, view};
 use crate::error::Error;
 use crate::error::Fault;
@@ -135,5 +135,63 @@ impl<B: Blob> Write<B> {
         }
         self.flush()?;
         self.place_run(place, run)
+    }
+
+    // Lays the pieces of a sound list end to end.
+    fn lay_pieces(&mut self, place: u64, list: &PieceList) -> Result<(), Fault>
+        requires { ⌜ Ready (parts disk (now self)) × Writable (view disk (now self)) (length (now (now list .area))) place (now (now list .pieces)) ⌝ }
+        ensures lays { λ r. ⌜ LaysPieces (now (now (list .entry) .area)) place (now (now (list .entry) .pieces)) (parts disk (now (self .entry))) r (parts disk (now (self .exit))) ⌝ }
+        ensures running { λ _. ⌜ now (self .exit) .closed ≡ now (self .entry) .closed ⌝ }
+    {
+        let mut at = place;
+        for piece in list.pieces {
+            if piece.len > 0 {
+                self.lay_run(at, list.run(piece))?;
+                at += piece.len as u64;
+            }
+        }
+        Ok(())
+    }
+
+    // How a call ends that was neither refused nor made on a closed writer: a fault closes the writer.
+    fn conclude(&mut self, outcome: Result<(), Fault>) -> Result<(), Error>
+        ensures answer { λ r. ⌜ Concludes outcome (now (self .entry) .closed) r (now (self .exit) .closed) ⌝ }
+        ensures parts { λ _. ⌜ parts disk (now (self .exit)) ≡ parts disk (now (self .entry)) ⌝ }
+    {
+        match outcome {
+            Ok(()) => Ok(()),
+            Err(fault) => {
+                self.closed = true;
+                Err(Error::DeviceFault(fault))
+            }
+        }
+    }
+
+    // Whether a write of the list at `place` is refused.
+    fn admit(&self, place: u64, list: &PieceList) -> Result<(), Error>
+        ensures { λ r. ⌜ Admits (view disk (now (self .entry))) place (length (now (now (list .entry) .area))) (now (now (list .entry) .pieces)) r ⌝ }
+    {
+        let Some(end) = place.checked_add(list.check()? as u64) else {
+            return Err(Error::OffsetOverflow);
+        };
+        if list.carries_any_byte() && end > self.blob.limit() {
+            return Err(Error::NoRoom);
+        }
+        Ok(())
+    }
+
+    // Writes the pieces of the list end to end from `place` on. They go into the tip where they merge; else
+    // the tip is flushed, or they are written to the blob directly.
+    pub fn write_at(&mut self, place: u64, list: &PieceList) -> Result<(), Error>
+        requires { ⌜ Consistent (view disk (now self)) ⌝ }
+        ensures step { λ r. ⌜ WriteAt (view disk (now (self .entry))) place (now (now (list .entry) .area)) (now (now (list .entry) .pieces)) r (view disk (now (self .exit))) ⌝ }
+        ensures consistent { λ _. ⌜ Consistent (view disk (now (self .exit))) ⌝ }
+    {
+        if self.closed {
+            return Err(Error::Closed);
+        }
+        self.admit(place, list)?;
+        let outcome = self.lay_pieces(place, list);
+        self.conclude(outcome)
     }
 }
