@@ -53,7 +53,7 @@ finishes-limit b (Err BlobInsufficientLength) c w = absurd w
 finishes-limit b (Err (DeviceFault code)) c w = ⊎-elim (λ d. d .1 .limit) (λ i. ap limited (i .same)) w
 
 -- and so no part of a writer's call
-abbrev Limits : (Store → Outcome → Store → Type 0) → Type 0
+abbrev pub Limits : (Store → Outcome → Store → Type 0) → Type 0
 Limits R = (s : Store) (r : Outcome) (t : Store) → R s r t → t .disk .limit ≡ s .disk .limit
 
 nothing-limits : Limits Nothing
@@ -64,7 +64,7 @@ asks-limits : (call : Disk → Answer → Disk → Type 0) (step : Step) (place 
 asks-limits call step place after keeps s (Ok x) t a = keeps (s .disk) (Ok x) (t .disk) (a .0)
 asks-limits call step place after keeps s (Err f) t a = keeps (s .disk) (Err (DeviceFault (f .code))) (t .disk) (a .0)
 
-then-limits : (A B : Store → Outcome → Store → Type 0) → Limits A → Limits B → Limits (Then A B)
+pub then-limits : (A B : Store → Outcome → Store → Type 0) → Limits A → Limits B → Limits (Then A B)
 then-limits A B la lb s (Ok x) t (m, a, b) = lb m (Ok x) t b ∙ la s (Ok x) m a
 then-limits A B la lb s (Err f) t (inl a) = la s (Err f) t a
 then-limits A B la lb s (Err f) t (inr (m, a, b)) = lb m (Err f) t b ∙ la s (Ok tt) m a

@@ -6,3 +6,4 @@ mod Keeps
 mod Ready
 mod OnePiece
 mod Concluding
+mod Gathering

@@ -8,6 +8,7 @@ use Prim.Native.Nat.{ℕ, _+_, _-_, _^_, _≤_, _<_, max}
 use native.Mathlib.Omega.{arith}
 use lib.ListN.{length, take, drop}
 use Rattle.std.proofs.shelf.Lists.{length-take, length-drop, length-append}
+use Rattle.std.specs.declared.option.Option.the-variants.{None}
 use Rattle.std.specs.declared.result.Result.the-variants.{Ok, Err}
 use Rattle.blob.specs.Bytes.{laid, resized}
 use Rattle.blob.proofs.Bytes.{length-laid, length-resized}
@@ -16,13 +17,13 @@ use Rattle.buffer.specs.declared.pieces.Piece.{Piece}
 use Rattle.buffer.specs.declared.tip.Buffer.{Buffer}
 use Rattle.buffer.specs.declared.sync_state.WriteOptions.{WriteOptions}
 use Rattle.buffer.specs.declared.sync_state.WriteOptions.the-variants as options
-use Rattle.buffer.specs.Tip.{Sized, Within, Beyond, buffered, holding, drained}
-use Rattle.buffer.specs.Stores.{Outcome, Nothing, Then}
+use Rattle.buffer.specs.Tip.{Sized, Within, Beyond, buffered, holding, drained, moved, Resized}
+use Rattle.buffer.specs.Stores.{Outcome, Nothing, Then, StoreWrites, StoreResizes}
 use Rattle.buffer.specs.Pieces.{inside, run, carries, total, all-inside}
-use Rattle.buffer.specs.Boxes.{Boxes, Flushed, Flushes, MergesRun, WritesRun, PlacesRun, FlushesFirst, LaysRun, LaysPieces}
+use Rattle.buffer.specs.Boxes.{Boxes, boxes, Flushed, Flushes, MergesRun, WritesRun, PlacesRun, FlushesFirst, LaysRun, LaysPieces, ResizesAbove, ResizesBoxes, SyncsEmpty, SyncsBoxes}
 use Rattle.buffer.specs.Steps.{Fits, Ready}
 use Rattle.buffer.proofs.Lists.{and-true, inside-bounds, carries-first, carries-rest}
-use Rattle.buffer.proofs.Keeps.{store-writes-limits, store-writes-content, store-resizes-limits, store-resizes-content, store-syncs-limits, store-syncs-content}
+use Rattle.buffer.proofs.Keeps.{then-limits, store-writes-limits, store-writes-content, store-resizes-limits, store-resizes-content, store-syncs-limits, store-syncs-content}
 
 -- What a part of a call leaves of a ready writer: it is ready again, or a fault broke the part off.
 abbrev pub Fitting : Outcome → Boxes → Type 0
@@ -214,3 +215,74 @@ pieces-stay area place (p ∷ ps) s (Err f) t ready sound room (inr (some, inr (
     let one = run-stays place (run area p) (omega arith) s (Ok tt) m ready (omega arith) a in
     let limit = one .limit in
     stays-trans s m (Err f) t one (pieces-stay area (place + p .len) ps m (Err f) t (ready-again s m ready one) (both .1) (λ more. omega arith) b)
+
+-- a resize
+module _ (n : ℕ) where
+  moved-sized : (t : Buffer) → Sized t → n ≤ 2 ^ 62 → Sized (moved t n)
+  moved-sized t z low = record { held = z .held; least = z .least; most = z .most; fits = omega arith; low = omega arith }
+
+  resized-fits : (s t : Boxes) → n ≤ s .store .disk .limit → t .store .disk .limit ≡ s .store .disk .limit → length (t .store .disk .content) ≡ n → t .tip .offset ≤ n → n ≡ t .tip .offset + t .tip .len → Fits t
+  resized-fits s t room same long low ends = record { starts = omega arith; covers = omega arith; room = omega arith }
+
+  above-stays : (s : Boxes) (r : Outcome) (t : Boxes) → Ready s → n ≤ s .store .disk .limit → ResizesAbove n s r t → Stays s r t
+  above-stays s r t ready room a =
+      let small = ready .small in
+      let write = StoreWrites options.Plain Flush (s .tip .offset) (buffered (s .tip)) in
+      let same = then-limits write (StoreResizes n) (store-writes-limits options.Plain Flush (s .tip .offset) (buffered (s .tip))) (store-resizes-limits n) (s .store) r (t .store) (a .parts) in
+      record { sized = subst Sized (sym (a .tip)) (moved-sized (s .tip) (ready .sized) (omega arith)); limit = same; fits = fits r same (a .parts) }
+    where
+      offset : t .tip .offset ≡ n
+      offset = ap (λ (b : Buffer). b .offset) (a .tip)
+      len : t .tip .len ≡ 0
+      len = ap (λ (b : Buffer). b .len) (a .tip)
+      fits : (r : Outcome) → t .store .disk .limit ≡ s .store .disk .limit → Then (StoreWrites options.Plain Flush (s .tip .offset) (buffered (s .tip))) (StoreResizes n) (s .store) r (t .store) → Fitting r t
+      fits (Ok x) same (m, w, k) =
+          let o = offset in
+          let l = len in
+          resized-fits s t room same (ap length (store-resizes-content n m (t .store) k) ∙ length-resized (m .disk .content) n) (omega arith) (omega arith)
+      fits (Err f) same p = tt
+
+  -- the tip after a resize that flushes nothing
+  within-tip : (t u : Buffer) → Sized t → n ≤ 2 ^ 62 → Resized t n None u → Sized u × (u .offset ≤ n) × (n ≡ u .offset + u .len)
+  within-tip t u z low (inl (none, is)) = subst (λ u. Sized u × (u .offset ≤ n) × (n ≡ u .offset + u .len)) (sym is) (moved-sized t z low, omega arith, omega arith)
+  within-tip t u z low (inr (inl (some, starts, ends, is))) =
+      let fits = z .fits in
+      subst (λ u. Sized u × (u .offset ≤ n) × (n ≡ u .offset + u .len)) (sym is)
+      (record { held = z .held; least = z .least; most = z .most; fits = omega arith; low = omega arith }, omega arith, omega arith)
+  within-tip t u z low (inr (inr (some, below, is))) = subst (λ u. Sized u × (u .offset ≤ n) × (n ≡ u .offset + u .len)) (sym is) (moved-sized t z low, omega arith, omega arith)
+
+  within-fits : (s : Boxes) (r : Outcome) (t : Boxes) → n ≤ s .store .disk .limit → t .store .disk .limit ≡ s .store .disk .limit → t .tip .offset ≤ n → n ≡ t .tip .offset + t .tip .len → StoreResizes n (s .store) r (t .store) → Fitting r t
+  within-fits s (Ok x) t room same low ends k = resized-fits s t room same (ap length (store-resizes-content n (s .store) (t .store) k) ∙ length-resized (s .store .disk .content) n) low ends
+  within-fits s (Err f) t room same low ends k = tt
+
+  pub resizes-stays : (s : Boxes) (r : Outcome) (t : Boxes) → Ready s → n ≤ s .store .disk .limit → ResizesBoxes n s r t → Stays s r t
+  resizes-stays s r t ready room (inl a) = above-stays s r t ready room a
+  resizes-stays s r t ready room (inr w) =
+      let small = ready .small in
+      let tip = within-tip (s .tip) (t .tip) (ready .sized) (omega arith) (w .tip) in
+      let same = store-resizes-limits n (s .store) r (t .store) (w .resizes) in
+      record { sized = tip .0; limit = same; fits = within-fits s r t room same (tip .1) (tip .2) (w .resizes) }
+
+-- a sync
+empty-fits : (s : Boxes) (r : Outcome) (t : Boxes) → Ready s → SyncsEmpty s r t → Fitting r t
+empty-fits s (Ok x) t ready e =
+    let limit = store-syncs-limits (s .store) (Ok x) (t .store) (e .syncs) in
+    let long = ap length (store-syncs-content (s .store) (t .store) (e .syncs)) in
+    let offset = ap (λ (b : Buffer). b .offset) (e .tip) in
+    let len = ap (λ (b : Buffer). b .len) (e .tip) in
+    let starts = ready .fits .starts in
+    let covers = ready .fits .covers in
+    let room = ready .fits .room in
+    record { starts = omega arith; covers = omega arith; room = omega arith }
+empty-fits s (Err f) t ready e = tt
+
+pub syncs-stays : (s : Boxes) (r : Outcome) (t : Boxes) → Ready s → SyncsBoxes s r t → Stays s r t
+syncs-stays s r t ready (inl f) = flushed-stays options.Sync s r t ready f
+syncs-stays s r t ready (inr e) =
+    record { sized = subst Sized (sym (e .tip)) (ready .sized); limit = store-syncs-limits (s .store) r (t .store) (e .syncs); fits = empty-fits s r t ready e }
+
+-- a run that was tried
+pub tried-fits : (place : ℕ) (run : List ℕ) (s : Boxes) → Ready s → 0 < length run → place + length run ≤ s .store .disk .limit → Within (s .tip) place (length run) → Ready (boxes (s .store) (holding (s .tip) (laid (buffered (s .tip)) (place - s .tip .offset) run)))
+tried-fits place run s ready filled room within =
+    let t = boxes (s .store) (holding (s .tip) (laid (buffered (s .tip)) (place - s .tip .offset) run)) in
+    ready-again s t ready (merges-stays place run filled s (Ok tt) t ready room (record { within = within; tip = refl }))

@@ -2,7 +2,7 @@
 use mathlib.Core.Path.{_≡_}
 use mathlib.Core.List.{List, [], _∷_, _++_}
 use mathlib.Core.Logic.{_⊎_}
-use Prim.Native.Nat.{ℕ, _+_, _-_, _≤_, _<_, min}
+use Prim.Native.Nat.{ℕ, _+_, _-_, _≤_, _<_}
 use lib.ListN.{length}
 use Rattle.std.specs.declared.option.Option.the-variants.{Some, None}
 use Rattle.std.specs.declared.result.Result.the-variants.{Ok, Err}
@@ -13,7 +13,7 @@ use Rattle.buffer.specs.declared.tip.Buffer.{Buffer}
 use Rattle.buffer.specs.declared.sync_state.WriteOptions.{WriteOptions}
 use Rattle.buffer.specs.declared.sync_state.WriteOptions.the-variants as options
 use Rattle.buffer.specs.Pieces.{run}
-use Rattle.buffer.specs.Tip.{Within, Beyond, buffered, holding, drained, moved, raised, Resized}
+use Rattle.buffer.specs.Tip.{Within, Beyond, buffered, holding, drained, moved, raised, below, Resized}
 use Rattle.buffer.specs.Stores.{Store, Outcome, Nothing, Then, StoreWrites, StoreResizes, StoreSyncs}
 
 -- The tip, and the blob behind it.
@@ -92,10 +92,6 @@ pub record SyncsEmpty (s : Boxes) (r : Outcome) (t : Boxes) : Type 0 where
 
 abbrev pub SyncsBoxes : Boxes → Outcome → Boxes → Type 0
 SyncsBoxes s r t = Flushed options.Sync s r t ⊎ SyncsEmpty s r t
-
--- How many of the n bytes from a place on lie below the tip's offset.
-abbrev pub below : Buffer → ℕ → ℕ → ℕ
-below tip place n = min n (tip .offset - place)
 
 -- The n bytes from a place on: those below the offset from the blob, the rest from the tip.
 abbrev pub gathered : Boxes → ℕ → ℕ → List ℕ

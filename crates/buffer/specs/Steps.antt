@@ -9,7 +9,7 @@ use lib.ListN.{length}
 use lib.Dec.{ltb}
 use Rattle.std.specs.declared.result.Result.{Result}
 use Rattle.std.specs.declared.result.Result.the-variants.{Ok, Err}
-use Rattle.blob.specs.Bytes.{laid}
+use Rattle.blob.specs.Bytes.{laid, part}
 use Rattle.blob.specs.Meaning.{Disk, ReadKeeps}
 use Rattle.blob.specs.declared.BlobError.the-variants as answers
 use Rattle.buffer.specs.declared.error.Error.{Error}
@@ -21,9 +21,9 @@ use Rattle.buffer.specs.declared.tip.Buffer.{Buffer}
 use Rattle.buffer.specs.declared.sync_state.SyncState.{SyncState}
 use Rattle.buffer.specs.declared.sync_state.SyncState.the-variants.{Dirty}
 use Rattle.buffer.specs.Pieces.{SoundList, Offends, total, carries}
-use Rattle.buffer.specs.Tip.{Sized, Within, Beyond, buffered, holding, fresh}
+use Rattle.buffer.specs.Tip.{Sized, Within, Beyond, buffered, holding, fresh, below}
 use Rattle.buffer.specs.Stores.{store, clean, Outcome}
-use Rattle.buffer.specs.Boxes.{Boxes, boxes, LaysPieces, ResizesBoxes, SyncsBoxes, below, gathered}
+use Rattle.buffer.specs.Boxes.{Boxes, boxes, LaysPieces, ResizesBoxes, SyncsBoxes, gathered}
 
 pub record State : Type 0 where
   pub boxes : Boxes
@@ -182,27 +182,46 @@ pub record InRange (s : State) (place n : ℕ) : Type 0 where
   pub fits : place + n < 2 ^ 64
   pub within : place + n ≤ size s
 
-pub record ReadsTip (s : State) (place : ℕ) (out : List ℕ) (t : State) (out′ : List ℕ) : Type 0 where
-  pub none : below (s .boxes .tip) place (length out) ≡ 0
-  pub bytes : out′ ≡ gathered (s .boxes) place (length out)
-  pub same : t ≡ s
+-- One read of the blob, unless no byte is wanted of it.
+abbrev pub Asked : ℕ → Disk → Disk → Type 0
+Asked n b c = ((n ≡ 0) × (c ≡ b)) ⊎ ((0 < n) × ReadKeeps b (Ok tt) c)
 
-pub record ReadsBlob (s : State) (place : ℕ) (out : List ℕ) (t : State) (out′ : List ℕ) : Type 0 where
-  pub some : 0 < below (s .boxes .tip) place (length out)
+abbrev pub ReadsBelow : Disk → ℕ → List ℕ → Outcome → Disk → List ℕ → Type 0
+ReadsBelow b place out (Ok _) c out′ = (out′ ≡ part (b .content) place (length out)) × Asked (length out) b c
+ReadsBelow b place out (Err fault) c out′ =
+    (0 < length out) × (fault .step ≡ Read) × (fault .place ≡ place) × (out′ ≡ out) × ReadKeeps b (Err (answers.DeviceFault (fault .code))) c
+
+-- A read changes nothing but what the blob's read may change.
+abbrev pub Untouched : State → State → Type 0
+Untouched s t = t ≡ state (t .boxes .store .disk) (s .boxes .store .sync) (s .boxes .tip) (s .closed)
+
+pub record ReadsOk (s : State) (place : ℕ) (out : List ℕ) (t : State) (out′ : List ℕ) : Type 0 where
   pub bytes : out′ ≡ gathered (s .boxes) place (length out)
-  pub disk : ReadKeeps (s .boxes .store .disk) (Ok tt) (t .boxes .store .disk)
-  pub same : t ≡ state (t .boxes .store .disk) (s .boxes .store .sync) (s .boxes .tip) (s .closed)
+  pub blob : Asked (below (s .boxes .tip) place (length out)) (s .boxes .store .disk) (t .boxes .store .disk)
+  pub rest : Untouched s t
 
 pub record ReadFaults (s : State) (place : ℕ) (out : List ℕ) (fault : Fault) (t : State) (out′ : List ℕ) : Type 0 where
   pub some : 0 < below (s .boxes .tip) place (length out)
   pub step : fault .step ≡ Read
   pub at : fault .place ≡ place
   pub left : out′ ≡ out
-  pub disk : ReadKeeps (s .boxes .store .disk) (Err (answers.DeviceFault (fault .code))) (t .boxes .store .disk)
-  pub same : t ≡ state (t .boxes .store .disk) (s .boxes .store .sync) (s .boxes .tip) (s .closed)
+  pub blob : ReadKeeps (s .boxes .store .disk) (Err (answers.DeviceFault (fault .code))) (t .boxes .store .disk)
+  pub rest : Untouched s t
+
+-- A read in range.
+abbrev pub Gathers : State → ℕ → List ℕ → Result Unit Error → State → List ℕ → Type 0
+Gathers s place out (Ok _) t out′ = ReadsOk s place out t out′
+Gathers s place out (Err BadCapacity) t out′ = ⊥
+Gathers s place out (Err TooManyPieces) t out′ = ⊥
+Gathers s place out (Err (BadPiece i)) t out′ = ⊥
+Gathers s place out (Err OffsetOverflow) t out′ = ⊥
+Gathers s place out (Err NoRoom) t out′ = ⊥
+Gathers s place out (Err BlobInsufficientLength) t out′ = ⊥
+Gathers s place out (Err Closed) t out′ = ⊥
+Gathers s place out (Err (DeviceFault fault)) t out′ = ReadFaults s place out fault t out′
 
 abbrev pub ReadAt : State → ℕ → List ℕ → Result Unit Error → State → List ℕ → Type 0
-ReadAt s place out (Ok _) t out′ = (s .closed ≡ false) × InRange s place (length out) × (ReadsTip s place out t out′ ⊎ ReadsBlob s place out t out′)
+ReadAt s place out (Ok x) t out′ = (s .closed ≡ false) × InRange s place (length out) × Gathers s place out (Ok x) t out′
 ReadAt s place out (Err BadCapacity) t out′ = ⊥
 ReadAt s place out (Err TooManyPieces) t out′ = ⊥
 ReadAt s place out (Err (BadPiece i)) t out′ = ⊥
@@ -210,4 +229,4 @@ ReadAt s place out (Err OffsetOverflow) t out′ = Refused s (2 ^ 64 ≤ place +
 ReadAt s place out (Err NoRoom) t out′ = ⊥
 ReadAt s place out (Err BlobInsufficientLength) t out′ = Refused s ((place + length out < 2 ^ 64) × (size s < place + length out)) t × (out′ ≡ out)
 ReadAt s place out (Err Closed) t out′ = IsClosed s t × (out′ ≡ out)
-ReadAt s place out (Err (DeviceFault fault)) t out′ = (s .closed ≡ false) × InRange s place (length out) × ReadFaults s place out fault t out′
+ReadAt s place out (Err (DeviceFault fault)) t out′ = (s .closed ≡ false) × InRange s place (length out) × Gathers s place out (Err (DeviceFault fault)) t out′

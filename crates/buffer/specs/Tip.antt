@@ -3,7 +3,7 @@ use mathlib.Core.Path.{_≡_}
 use mathlib.Core.List.{List, _++_}
 use mathlib.Core.Logic.{_⊎_}
 use mathlib.Core.Bool.{Bool, true, false}
-use Prim.Native.Nat.{ℕ, _+_, _-_, _^_, _≤_, _<_, max}
+use Prim.Native.Nat.{ℕ, _+_, _-_, _^_, _≤_, _<_, min, max}
 use lib.Dec.{eqb}
 use lib.ListN.{length, take, drop, replicate}
 use Rattle.std.specs.declared.option.Option.{Option}
@@ -75,3 +75,7 @@ Resized t n (Some range) u = (0 < t .len) × (t .offset + t .len ≤ n) × (rang
 -- An offset below the end of a direct write rises to it.
 abbrev pub raised : Buffer → ℕ → Buffer
 raised t end = record { bytes = t .bytes; len = t .len; offset = max (t .offset) end; capacity = t .capacity }
+
+-- How many of the n bytes from a place on lie below the tip's offset.
+abbrev pub below : Buffer → ℕ → ℕ → ℕ
+below tip place n = min n (tip .offset - place)

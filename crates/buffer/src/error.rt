@@ -1,5 +1,6 @@
 // What a writer answers when it does not do what it was asked.
 ghost use mathlib.Core.Path.{_≡_};
+ghost use Rattle.buffer.specs.declared.error.Error.the-variants.{DeviceFault};
 ghost use Rattle.buffer.specs.Numbers.{step-number, number};
 
 // What the writer was doing when the device failed.
@@ -74,5 +75,13 @@ impl Error {
             Error::Closed => 8,
             Error::DeviceFault(_) => 9,
         }
+    }
+}
+
+pub impl From<Fault> for Error as ErrorFromFault {
+    ghost converts = { λ fault r. r ≡ DeviceFault fault };
+
+    fn from(fault: Fault) -> Error {
+        Error::DeviceFault(fault)
     }
 }

@@ -26,7 +26,7 @@ pub enum WriteOptions {
 }
 
 // A blob's answer, with the step and the place of a fault. The caller knows that the blob does not refuse.
-fn located(answer: Result<(), BlobError>, step: Step, place: u64) -> Result<(), Fault>
+pub(crate) fn located(answer: Result<(), BlobError>, step: Step, place: u64) -> Result<(), Fault>
     requires { ⌜ Unrefused answer ⌝ }
     ensures { λ r. ⌜ Locates answer step place r ⌝ }
 {

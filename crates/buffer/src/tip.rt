@@ -2,7 +2,7 @@
 ghost use mathlib.Core.Path.{_≡_};
 ghost use Prim.Native.Nat.{_+_, _-_, _≤_};
 ghost use Rattle.blob.specs.Bytes.{part};
-ghost use Rattle.buffer.specs.Tip.{Sized, Merges, Drains, Resized, raised, fresh};
+ghost use Rattle.buffer.specs.Tip.{Sized, Merges, Drains, Resized, raised, fresh, below};
 
 use blob::area::clear;
 
@@ -50,6 +50,13 @@ impl Buffer {
         ensures { λ r. ⌜ r ≡ now (self .entry) .offset ⌝ }
     {
         self.offset
+    }
+
+    // How many of the `n` bytes from `place` on lie below the offset.
+    pub(crate) fn below(&self, place: u64, n: usize) -> usize
+        ensures { λ r. ⌜ r ≡ below (now (self .entry)) place n ⌝ }
+    {
+        (self.offset.saturating_sub(place)).min(n as u64) as usize
     }
 
     // The held bytes from `start` to `end`.

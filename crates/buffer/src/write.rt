@@ -7,15 +7,17 @@ ghost use Rattle.buffer.specs.declared.error.Step.the-variants.{Flush};
 ghost use Rattle.buffer.specs.declared.sync_state.WriteOptions.the-variants.{Plain};
 ghost use Rattle.buffer.specs.Tip.{Beyond};
 ghost use Rattle.buffer.specs.Stores.{StoreWrites};
-ghost use Rattle.buffer.specs.Boxes.{Flushes, WritesRun, PlacesRun, LaysRun, LaysPieces};
-ghost use Rattle.buffer.specs.Steps.{Ready, Consistent, Writable, Admits, Concludes, WriteAt, ChecksCapacity, made, size, needs-sync};
+ghost use Rattle.buffer.specs.Boxes.{Flushes, WritesRun, PlacesRun, LaysRun, LaysPieces, ResizesBoxes, SyncsBoxes};
+ghost use Rattle.buffer.specs.Steps.{Ready, Consistent, Writable, Admits, Concludes, WriteAt, TryWriteAt, ResizeTo, SyncAll, ReadsBelow, Gathers, ReadAt, state, ChecksCapacity, made, size, needs-sync};
 ghost use Rattle.buffer.specs.View.{parts, view};
 use crate::error::Error;
+use crate::error::ErrorFromFault;
 use crate::error::Fault;
 use crate::error::Step;
 use crate::pieces::PieceList;
 use crate::sync_state::SyncState;
 use crate::sync_state::WriteOptions;
+use crate::sync_state::located;
 use crate::tip::Buffer;
 use crate::tip::MAX_CAPACITY;
 use blob::Blob;
@@ -193,5 +195,123 @@ impl<B: Blob> Write<B> {
         self.admit(place, list)?;
         let outcome = self.lay_pieces(place, list);
         self.conclude(outcome)
+    }
+
+    // Merges the run into the tip if it fits there, and answers whether it did. It asks nothing of the blob
+    // but its limit.
+    pub fn try_write_at(&mut self, place: u64, run: &[u8]) -> bool
+        requires { ⌜ Consistent (view disk (now self)) ⌝ }
+        ensures step { λ r. ⌜ TryWriteAt (view disk (now (self .entry))) place (now (run .entry)) r (view disk (now (self .exit))) ⌝ }
+        ensures consistent { λ _. ⌜ Consistent (view disk (now (self .exit))) ⌝ }
+    {
+        if self.closed {
+            return false;
+        }
+        if run.is_empty() {
+            return true;
+        }
+        let Some(end) = place.checked_add(run.len() as u64) else {
+            return false;
+        };
+        if end > self.blob.limit() {
+            return false;
+        }
+        self.buffer.merge(place, run)
+    }
+
+    // Fits the tip and then the blob to a capture of `len` bytes.
+    fn resize_boxes(&mut self, len: u64) -> Result<(), Fault>
+        requires { ⌜ Ready (parts disk (now self)) × (len ≤ disk (now self .blob) .limit) ⌝ }
+        ensures resizes { λ r. ⌜ ResizesBoxes len (parts disk (now (self .entry))) r (parts disk (now (self .exit))) ⌝ }
+        ensures running { λ _. ⌜ now (self .exit) .closed ≡ now (self .entry) .closed ⌝ }
+    {
+        if let Some((offset, drained)) = self.buffer.resize(len) {
+            self.write_drained(offset, drained, WriteOptions::Plain)?;
+        }
+        self.sync_state.resize(&mut self.blob, len)
+    }
+
+    // Cuts the capture to `len` bytes, or adds zeros up to there.
+    pub fn resize(&mut self, len: u64) -> Result<(), Error>
+        requires { ⌜ Consistent (view disk (now self)) ⌝ }
+        ensures step { λ r. ⌜ ResizeTo (view disk (now (self .entry))) len r (view disk (now (self .exit))) ⌝ }
+        ensures consistent { λ _. ⌜ Consistent (view disk (now (self .exit))) ⌝ }
+    {
+        if self.closed {
+            return Err(Error::Closed);
+        }
+        if len > self.blob.limit() {
+            return Err(Error::NoRoom);
+        }
+        let outcome = self.resize_boxes(len);
+        self.conclude(outcome)
+    }
+
+    // Writes what is buffered and makes the whole capture durable.
+    fn sync_boxes(&mut self) -> Result<(), Fault>
+        requires { ⌜ Ready (parts disk (now self)) ⌝ }
+        ensures syncs { λ r. ⌜ SyncsBoxes (parts disk (now (self .entry))) r (parts disk (now (self .exit))) ⌝ }
+        ensures running { λ _. ⌜ now (self .exit) .closed ≡ now (self .entry) .closed ⌝ }
+    {
+        match self.buffer.take() {
+            Some((offset, len)) => self.write_drained(offset, len, WriteOptions::Sync),
+            None => self.sync_state.sync(&mut self.blob),
+        }
+    }
+
+    // Makes the whole capture durable.
+    pub fn sync(&mut self) -> Result<(), Error>
+        requires { ⌜ Consistent (view disk (now self)) ⌝ }
+        ensures step { λ r. ⌜ SyncAll (view disk (now (self .entry))) r (view disk (now (self .exit))) ⌝ }
+        ensures consistent { λ _. ⌜ Consistent (view disk (now (self .exit))) ⌝ }
+    {
+        if self.closed {
+            return Err(Error::Closed);
+        }
+        let outcome = self.sync_boxes();
+        self.conclude(outcome)
+    }
+
+    // Fills `out` from the blob, by one read.
+    fn read_blob(&mut self, place: u64, out: &mut [u8]) -> Result<(), Fault>
+        requires { ⌜ (0 < length (now out) → place + length (now out) ≤ length (disk (now self .blob) .content)) ⌝ }
+        ensures reads { λ r. ⌜ ReadsBelow (disk (now (self .entry) .blob)) place (now (out .entry)) r (disk (now (self .exit) .blob)) (now (out .exit)) ⌝ }
+        ensures rest { λ _. ⌜ view disk (now (self .exit)) ≡ state (disk (now (self .exit) .blob)) (now (self .entry) .«sync_state») (now (self .entry) .buffer) (now (self .entry) .closed) ⌝ }
+    {
+        if out.is_empty() {
+            return Ok(());
+        }
+        located(self.blob.read_back(place, out), Step::Read, place)
+    }
+
+    // Fills `out` from the blob below the tip's offset, and from the tip above it.
+    fn gather(&mut self, place: u64, out: &mut [u8]) -> Result<(), Error>
+        requires { ⌜ Ready (parts disk (now self)) × (place + length (now out) ≤ now self .buffer .offset + now self .buffer .len) ⌝ }
+        ensures { λ r. ⌜ Gathers (view disk (now (self .entry))) place (now (out .entry)) r (view disk (now (self .exit))) (now (out .exit)) ⌝ }
+    {
+        let below = self.buffer.below(place, out.len());
+        self.read_blob(place, &mut out[0..below])?;
+        let start = place.saturating_sub(self.buffer.offset()) as usize;
+        let end = start + (out.len() - below);
+        out[below..].copy_from_slice(self.buffer.slice(start, end));
+        Ok(())
+    }
+
+    // Fills `out` with the bytes of the capture from `place` on.
+    pub fn read_at(&mut self, place: u64, out: &mut [u8]) -> Result<(), Error>
+        requires { ⌜ Consistent (view disk (now self)) ⌝ }
+        ensures step { λ r. ⌜ ReadAt (view disk (now (self .entry))) place (now (out .entry)) r (view disk (now (self .exit))) (now (out .exit)) ⌝ }
+        ensures consistent { λ _. ⌜ Consistent (view disk (now (self .exit))) ⌝ }
+    {
+        if self.closed {
+            return Err(Error::Closed);
+        }
+        let Some(end) = place.checked_add(out.len() as u64) else {
+            return Err(Error::OffsetOverflow);
+        };
+        if end > self.buffer.size() {
+            return Err(Error::BlobInsufficientLength);
+        }
+        self.gather(place, out)
     }
 }
