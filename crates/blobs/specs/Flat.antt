@@ -1,8 +1,10 @@
 -- What a flat blob over an area of bytes is, and which starting lengths its check takes.
-use mathlib.Core.List.{List}
+use mathlib.Core.List.{List, _++_}
 use mathlib.Core.Bool.{true}
 use Prim.Native.Nat.{ℕ, _/_, _^_, _≤_, _<_, min}
+use lib.Chars.{codes}
 use lib.ListN.{length, take, drop}
+use Rattle.std.specs.Written.{decimal}
 use Rattle.std.specs.declared.result.Result.{Result}
 use Rattle.std.specs.declared.result.Result.the-variants.{Ok, Err}
 use Rattle.blob.specs.Bytes.{part}
@@ -36,3 +38,7 @@ fresh area start = flat area (half (length area)) (min start (half (length area)
 -- The number of the refusal.
 abbrev pub number : StartError → ℕ
 number BadStart = 7
+
+-- As it is written out.
+abbrev pub text : StartError → List ℕ
+text BadStart = decimal (number BadStart) ++ codes " BadStart"

@@ -9,13 +9,15 @@ ghost use Rattle.blob.specs.Meaning.{broken, Reads};
 ghost use Rattle.blob.specs.Bytes.{part, laid, resized};
 ghost use Rattle.blob.specs.declared.StartedSync.the-variants.{Idle, Done};
 ghost use Rattle.blob.specs.declared.BlobError.the-variants.{NoRoom, BlobInsufficientLength};
-ghost use Rattle.blobs.specs.Flat.{Starts, fresh, flat, images, number};
+ghost use Rattle.blobs.specs.Flat.{Starts, fresh, flat, images, number, text};
+ghost use Rattle.std.specs.declared.option.Option.the-variants.{Some};
 use blob::Blob;
 use blob::BlobError;
 use blob::Readable;
 use blob::StartedSync;
 use blob::area::clear;
 use blob::area::lay;
+use std::fmt;
 
 // The largest limit of any blob, 2^62.
 const MAX_LIMIT: usize = 4611686018427387904;
@@ -34,6 +36,18 @@ impl StartError {
     {
         match self {
             StartError::BadStart => 7,
+        }
+    }
+}
+
+// A refusal by its number and its name.
+pub impl fmt::Display for StartError as StartErrorDisplay {
+    ghost shown = { λ e. Some (text e) };
+
+    fn fmt<W: fmt::Write>(&self, f: &mut fmt::Formatter<W>) -> fmt::Result {
+        let n = self.number();
+        match self {
+            StartError::BadStart => write!(f, "{n} BadStart"),
         }
     }
 }
@@ -85,6 +99,20 @@ impl FlatBlob {
             durable_len: len,
             started: StartedSync::Idle,
         }
+    }
+
+    // What can be read.
+    pub fn content(&self) -> &[u8]
+        ensures { λ r. ⌜ now r ≡ take (now (self .entry) .len) (vec-items (now (self .entry) .area)) ⌝ }
+    {
+        &self.area[0..self.len]
+    }
+
+    // What a power cut would leave.
+    pub fn durable(&self) -> &[u8]
+        ensures { λ r. ⌜ now r ≡ part (vec-items (now (self .entry) .area)) (now (self .entry) .limit) (now (self .entry) .«durable_len») ⌝ }
+    {
+        &self.area[self.limit..self.limit + self.durable_len]
     }
 
     // Where a write of `n` bytes at `place` ends, unless that is above the limit.

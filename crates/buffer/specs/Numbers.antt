@@ -1,6 +1,8 @@
--- The number of each answer of a writer, and the values that it carries.
-use mathlib.Core.List.{List, [], _∷_}
+-- The number of each refusal of a writer, and the values that it carries.
+use mathlib.Core.List.{List, _++_}
 use Prim.Native.Nat.{ℕ}
+use lib.Chars.{codes}
+use Rattle.std.specs.Written.{decimal}
 use Rattle.buffer.specs.declared.error.Step.{Step}
 use Rattle.buffer.specs.declared.error.Step.the-variants.{Flush, DirectWrite, Resize, Sync, Wait, Read}
 use Rattle.buffer.specs.declared.error.Error.{Error}
@@ -24,13 +26,18 @@ number BlobInsufficientLength = 6
 number Closed = 8
 number (DeviceFault fault) = 9
 
--- The number of the offending piece; the step, the code and the place of a fault.
-abbrev pub values : Error → List ℕ
-values BadCapacity = []
-values TooManyPieces = []
-values (BadPiece i) = i ∷ []
-values OffsetOverflow = []
-values NoRoom = []
-values BlobInsufficientLength = []
-values Closed = []
-values (DeviceFault fault) = step-number (fault .step) ∷ (fault .code ∷ (fault .place ∷ []))
+-- Its name, with the values that it carries: the number of the offending piece; the step, the code and the
+-- place of a fault.
+abbrev pub name : Error → List ℕ
+name BadCapacity = codes "BadCapacity"
+name TooManyPieces = codes "TooManyPieces"
+name (BadPiece i) = codes "BadPiece " ++ decimal i
+name OffsetOverflow = codes "OffsetOverflow"
+name NoRoom = codes "NoRoom"
+name BlobInsufficientLength = codes "BlobInsufficientLength"
+name Closed = codes "Closed"
+name (DeviceFault fault) = codes "DeviceFault step " ++ (decimal (step-number (fault .step)) ++ (codes " code " ++ (decimal (fault .code) ++ (codes " place " ++ decimal (fault .place)))))
+
+-- As it is written out.
+abbrev pub text : Error → List ℕ
+text e = decimal (number e) ++ (codes " " ++ name e)

@@ -1,7 +1,9 @@
 // What a writer answers when it does not do what it was asked.
 ghost use mathlib.Core.Path.{_≡_};
+ghost use Rattle.std.specs.declared.option.Option.the-variants.{Some};
 ghost use Rattle.buffer.specs.declared.error.Error.the-variants.{DeviceFault};
-ghost use Rattle.buffer.specs.Numbers.{step-number, number};
+ghost use Rattle.buffer.specs.Numbers.{step-number, number, text};
+use std::fmt;
 
 // What the writer was doing when the device failed.
 #[derive(Clone, Copy, PartialEq, Eq, Debug)]
@@ -83,5 +85,29 @@ pub impl From<Fault> for Error as ErrorFromFault {
 
     fn from(fault: Fault) -> Error {
         Error::DeviceFault(fault)
+    }
+}
+
+// A refusal by its number, its name and its values.
+pub impl fmt::Display for Error as ErrorDisplay {
+    ghost shown = { λ e. Some (text e) };
+
+    fn fmt<W: fmt::Write>(&self, f: &mut fmt::Formatter<W>) -> fmt::Result {
+        let n = self.number();
+        match self {
+            Error::BadCapacity => write!(f, "{n} BadCapacity"),
+            Error::TooManyPieces => write!(f, "{n} TooManyPieces"),
+            Error::BadPiece(i) => write!(f, "{n} BadPiece {i}"),
+            Error::OffsetOverflow => write!(f, "{n} OffsetOverflow"),
+            Error::NoRoom => write!(f, "{n} NoRoom"),
+            Error::BlobInsufficientLength => write!(f, "{n} BlobInsufficientLength"),
+            Error::Closed => write!(f, "{n} Closed"),
+            Error::DeviceFault(fault) => {
+                let step = fault.step.number();
+                let code = fault.code;
+                let place = fault.place;
+                write!(f, "{n} DeviceFault step {step} code {code} place {place}")
+            }
+        }
     }
 }

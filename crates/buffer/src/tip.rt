@@ -2,7 +2,7 @@
 ghost use mathlib.Core.Path.{_≡_};
 ghost use Prim.Native.Nat.{_+_, _-_, _≤_};
 ghost use Rattle.blob.specs.Bytes.{part};
-ghost use Rattle.buffer.specs.Tip.{Sized, Merges, Drains, Resized, raised, fresh, below};
+ghost use Rattle.buffer.specs.Tip.{Sized, Merges, Drains, Resized, raised, fresh, below, buffered};
 
 use blob::area::clear;
 
@@ -65,6 +65,14 @@ impl Buffer {
         ensures { λ r. ⌜ now r ≡ part (now (self .entry) .bytes) start (end - start) ⌝ }
     {
         &self.bytes[start..end]
+    }
+
+    // The buffered bytes.
+    pub(crate) fn buffered(&self) -> &[u8]
+        requires { ⌜ Sized (now self) ⌝ }
+        ensures { λ r. ⌜ now r ≡ buffered (now (self .entry)) ⌝ }
+    {
+        self.slice(0, self.len)
     }
 
     // Merges the run into the tip where it fits between the offset and the capacity. A gap in the tip

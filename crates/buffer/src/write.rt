@@ -5,7 +5,7 @@ ghost use Prim.Native.Nat.{_+_, _^_, _≤_, _<_};
 ghost use lib.ListN.{length, take};
 ghost use Rattle.buffer.specs.declared.error.Step.the-variants.{Flush};
 ghost use Rattle.buffer.specs.declared.sync_state.WriteOptions.the-variants.{Plain};
-ghost use Rattle.buffer.specs.Tip.{Beyond};
+ghost use Rattle.buffer.specs.Tip.{Beyond, buffered};
 ghost use Rattle.buffer.specs.Stores.{StoreWrites};
 ghost use Rattle.buffer.specs.Boxes.{Flushes, WritesRun, PlacesRun, LaysRun, LaysPieces, ResizesBoxes, SyncsBoxes};
 ghost use Rattle.buffer.specs.Steps.{Ready, Consistent, Writable, Admits, Concludes, WriteAt, TryWriteAt, ResizeTo, SyncAll, ReadsBelow, Gathers, ReadAt, state, ChecksCapacity, made, size, needs-sync};
@@ -313,5 +313,41 @@ impl<B: Blob> Write<B> {
             return Err(Error::BlobInsufficientLength);
         }
         self.gather(place, out)
+    }
+
+    // The blob, to be looked at.
+    pub fn blob(&self) -> &B
+        ensures { λ r. ⌜ now r ≡ now (self .entry) .blob ⌝ }
+    {
+        &self.blob
+    }
+
+    // The buffered bytes.
+    pub fn tip(&self) -> &[u8]
+        requires { ⌜ Consistent (view disk (now self)) ⌝ }
+        ensures { λ r. ⌜ now r ≡ buffered (now (self .entry) .buffer) ⌝ }
+    {
+        self.buffer.buffered()
+    }
+
+    // The place of the first buffered byte, or where the next one will stand.
+    pub fn tip_offset(&self) -> u64
+        ensures { λ r. ⌜ r ≡ now (self .entry) .buffer .offset ⌝ }
+    {
+        self.buffer.offset()
+    }
+
+    // What is known of the blob's durability.
+    pub fn sync_state(&self) -> SyncState
+        ensures { λ r. ⌜ r ≡ now (self .entry) .«sync_state» ⌝ }
+    {
+        self.sync_state
+    }
+
+    // Whether a fault has closed the writer.
+    pub fn is_closed(&self) -> bool
+        ensures { λ r. ⌜ r ≡ now (self .entry) .closed ⌝ }
+    {
+        self.closed
     }
 }
