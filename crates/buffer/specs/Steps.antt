@@ -179,8 +179,21 @@ needs-sync s = not (s .closed) && (ltb 0 (s .boxes .tip .len) || not (clean (s .
 -- read_at: the bytes below the tip's offset, if any, come by one read of the blob. Nothing but the output
 -- changes. A fault does not close the writer, and leaves the output.
 pub record InRange (s : State) (place n : ℕ) : Type 0 where
+  pub running : s .closed ≡ false
   pub fits : place + n < 2 ^ 64
   pub within : place + n ≤ size s
+
+-- Which reads of n bytes are refused.
+abbrev pub ChecksRead : State → ℕ → ℕ → Result Unit Error → Type 0
+ChecksRead s place n (Ok _) = InRange s place n
+ChecksRead s place n (Err BadCapacity) = ⊥
+ChecksRead s place n (Err TooManyPieces) = ⊥
+ChecksRead s place n (Err (BadPiece i)) = ⊥
+ChecksRead s place n (Err OffsetOverflow) = (s .closed ≡ false) × (2 ^ 64 ≤ place + n)
+ChecksRead s place n (Err NoRoom) = ⊥
+ChecksRead s place n (Err BlobInsufficientLength) = (s .closed ≡ false) × (place + n < 2 ^ 64) × (size s < place + n)
+ChecksRead s place n (Err Closed) = s .closed ≡ true
+ChecksRead s place n (Err (DeviceFault fault)) = ⊥
 
 -- One read of the blob, unless no byte is wanted of it.
 abbrev pub Asked : ℕ → Disk → Disk → Type 0
@@ -220,13 +233,19 @@ Gathers s place out (Err BlobInsufficientLength) t out′ = ⊥
 Gathers s place out (Err Closed) t out′ = ⊥
 Gathers s place out (Err (DeviceFault fault)) t out′ = ReadFaults s place out fault t out′
 
+-- A refused read leaves the writer and the output.
+pub record ReadRefused (s : State) (place : ℕ) (out : List ℕ) (e : Error) (t : State) (out′ : List ℕ) : Type 0 where
+  pub because : ChecksRead s place (length out) (Err e)
+  pub same : t ≡ s
+  pub left : out′ ≡ out
+
 abbrev pub ReadAt : State → ℕ → List ℕ → Result Unit Error → State → List ℕ → Type 0
-ReadAt s place out (Ok x) t out′ = (s .closed ≡ false) × InRange s place (length out) × Gathers s place out (Ok x) t out′
+ReadAt s place out (Ok x) t out′ = ChecksRead s place (length out) (Ok x) × Gathers s place out (Ok x) t out′
 ReadAt s place out (Err BadCapacity) t out′ = ⊥
 ReadAt s place out (Err TooManyPieces) t out′ = ⊥
 ReadAt s place out (Err (BadPiece i)) t out′ = ⊥
-ReadAt s place out (Err OffsetOverflow) t out′ = Refused s (2 ^ 64 ≤ place + length out) t × (out′ ≡ out)
+ReadAt s place out (Err OffsetOverflow) t out′ = ReadRefused s place out OffsetOverflow t out′
 ReadAt s place out (Err NoRoom) t out′ = ⊥
-ReadAt s place out (Err BlobInsufficientLength) t out′ = Refused s ((place + length out < 2 ^ 64) × (size s < place + length out)) t × (out′ ≡ out)
-ReadAt s place out (Err Closed) t out′ = IsClosed s t × (out′ ≡ out)
-ReadAt s place out (Err (DeviceFault fault)) t out′ = (s .closed ≡ false) × InRange s place (length out) × Gathers s place out (Err (DeviceFault fault)) t out′
+ReadAt s place out (Err BlobInsufficientLength) t out′ = ReadRefused s place out BlobInsufficientLength t out′
+ReadAt s place out (Err Closed) t out′ = ReadRefused s place out Closed t out′
+ReadAt s place out (Err (DeviceFault fault)) t out′ = ChecksRead s place (length out) (Ok tt) × Gathers s place out (Err (DeviceFault fault)) t out′

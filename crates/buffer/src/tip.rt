@@ -9,6 +9,7 @@ use blob::area::clear;
 // The most bytes that a tip can hold.
 pub const MAX_CAPACITY: usize = 4096;
 
+#[derive(Drop)]
 pub struct Buffer {
     // The first `len` of these are buffered.
     bytes: [u8; 4096],

@@ -8,7 +8,7 @@ ghost use Rattle.buffer.specs.declared.sync_state.WriteOptions.the-variants.{P
 ghost use Rattle.buffer.specs.Tip.{Beyond, buffered};
 ghost use Rattle.buffer.specs.Stores.{StoreWrites};
 ghost use Rattle.buffer.specs.Boxes.{Flushes, WritesRun, PlacesRun, LaysRun, LaysPieces, ResizesBoxes, SyncsBoxes};
-ghost use Rattle.buffer.specs.Steps.{Ready, Consistent, Writable, Admits, Concludes, WriteAt, TryWriteAt, ResizeTo, SyncAll, ReadsBelow, Gathers, ReadAt, state, ChecksCapacity, made, size, needs-sync};
+ghost use Rattle.buffer.specs.Steps.{Ready, Consistent, Writable, Admits, Concludes, WriteAt, TryWriteAt, ResizeTo, SyncAll, ChecksRead, ReadsBelow, Gathers, ReadAt, state, ChecksCapacity, made, size, needs-sync};
 ghost use Rattle.buffer.specs.View.{parts, view};
 use crate::error::Error;
 use crate::error::ErrorFromFault;
@@ -22,6 +22,7 @@ use crate::tip::Buffer;
 use crate::tip::MAX_CAPACITY;
 use blob::Blob;
 
+#[derive(Drop)]
 pub struct Write<B> {
     blob: B,
     // The bytes at the end of the capture that the blob does not have yet.
@@ -297,21 +298,30 @@ impl<B: Blob> Write<B> {
         Ok(())
     }
 
+    // Whether a read of `n` bytes at `place` is refused.
+    pub fn check_read(&self, place: u64, n: u64) -> Result<(), Error>
+        requires { ⌜ Consistent (view disk (now self)) ⌝ }
+        ensures { λ r. ⌜ ChecksRead (view disk (now (self .entry))) place n r ⌝ }
+    {
+        if self.closed {
+            return Err(Error::Closed);
+        }
+        let Some(end) = place.checked_add(n) else {
+            return Err(Error::OffsetOverflow);
+        };
+        if end > self.buffer.size() {
+            return Err(Error::BlobInsufficientLength);
+        }
+        Ok(())
+    }
+
     // Fills `out` with the bytes of the capture from `place` on.
     pub fn read_at(&mut self, place: u64, out: &mut [u8]) -> Result<(), Error>
         requires { ⌜ Consistent (view disk (now self)) ⌝ }
         ensures step { λ r. ⌜ ReadAt (view disk (now (self .entry))) place (now (out .entry)) r (view disk (now (self .exit))) (now (out .exit)) ⌝ }
         ensures consistent { λ _. ⌜ Consistent (view disk (now (self .exit))) ⌝ }
     {
-        if self.closed {
-            return Err(Error::Closed);
-        }
-        let Some(end) = place.checked_add(out.len() as u64) else {
-            return Err(Error::OffsetOverflow);
-        };
-        if end > self.buffer.size() {
-            return Err(Error::BlobInsufficientLength);
-        }
+        self.check_read(place, out.len() as u64)?;
         self.gather(place, out)
     }
 
