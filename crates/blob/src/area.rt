@@ -5,7 +5,7 @@ ghost use lib.ListN.{length, replicate};
 ghost use Rattle.blob.specs.Bytes.{laid};
 
 // Copies `bytes` into the area from `start` on.
-fn put(area: &mut [u8], start: usize, bytes: &[u8])
+pub fn put(area: &mut [u8], start: usize, bytes: &[u8])
     requires { ⌜ start + length (now bytes) ≤ length (now area) ⌝ }
     ensures { λ _. ⌜ now (area .exit) ≡ laid (now (area .entry)) start (now (bytes .entry)) ⌝ }
 {

@@ -1,0 +1,4 @@
+pub mod Line
+pub mod Values
+pub mod Calls
+pub mod Phrases
