@@ -7,3 +7,6 @@ mod Ready
 mod OnePiece
 mod Concluding
 mod Gathering
+mod Sure
+mod Captures
+mod Cases

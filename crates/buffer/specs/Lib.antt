@@ -5,3 +5,4 @@ pub mod Stores
 pub mod Boxes
 pub mod Steps
 pub mod View
+pub mod Station
