@@ -11,7 +11,7 @@ ghost use Rattle.blob.specs.Numbers.{number};
 pub mod area;
 
 // Why a blob did not do what it was asked.
-#[derive(Clone, Copy, PartialEq, Eq, Debug)]
+#[derive(Clone, Copy)]
 pub enum BlobError {
     // A filled write or a resize would end above the limit.
     NoRoom,
@@ -35,7 +35,7 @@ impl BlobError {
 }
 
 // A sync that was started and goes on while the caller does other things.
-#[derive(Clone, Copy, PartialEq, Eq, Debug)]
+#[derive(Clone, Copy)]
 pub enum StartedSync {
     // None was started, or a later change of the blob has replaced it.
     Idle,

@@ -23,7 +23,7 @@ use std::fmt;
 const MAX_LIMIT: usize = 4611686018427387904;
 
 // Why a starting length is refused.
-#[derive(Clone, Copy, PartialEq, Eq, Debug)]
+#[derive(Clone, Copy)]
 pub enum StartError {
     // It is above the limit.
     BadStart,

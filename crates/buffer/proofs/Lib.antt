@@ -1,12 +1,9 @@
-mod Lists
+pub mod Lists
 mod Tips
 mod Stores
-mod Makings
-mod Keeps
-mod Ready
+pub mod Makings
+pub mod Keeps
+pub mod Ready
 mod OnePiece
-mod Concluding
+pub mod Concluding
 mod Gathering
-mod Sure
-mod Captures
-mod Cases

@@ -5,4 +5,3 @@ pub mod Stores
 pub mod Boxes
 pub mod Steps
 pub mod View
-pub mod Station

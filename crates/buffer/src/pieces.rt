@@ -14,7 +14,7 @@ const MAX_PIECES: usize = 1024;
 const MAX_PIECE_LEN: usize = 65536;
 
 // A part of an area: where it starts, and how many bytes it has.
-#[derive(Clone, Copy, PartialEq, Eq, Debug)]
+#[derive(Clone, Copy)]
 pub struct Piece {
     pub start: usize,
     pub len: usize,

@@ -8,7 +8,7 @@ use crate::error::Step;
 use blob::Blob;
 use blob::BlobError;
 
-#[derive(Clone, Copy, PartialEq, Eq, Debug)]
+#[derive(Clone, Copy)]
 pub enum SyncState {
     // Nothing needs a sync.
     Clean,
@@ -18,7 +18,7 @@ pub enum SyncState {
     Pending,
 }
 
-#[derive(Clone, Copy, PartialEq, Eq, Debug)]
+#[derive(Clone, Copy)]
 pub enum WriteOptions {
     Plain,
     // The write is durable when it is accepted.

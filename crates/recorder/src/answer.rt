@@ -6,7 +6,6 @@ use blobs::flat::StartErrorDisplay;
 use buffer::error::Error;
 use buffer::error::ErrorDisplay;
 use buffer::sync_state::SyncState;
-use buffer::sync_state::SyncStateDebug;
 use call_list::Mistake;
 use call_list::MistakeDisplay;
 use std::alloc::AllocError;
@@ -81,8 +80,11 @@ pub impl fmt::Display for Drawing as DrawingDisplay {
         if self.closed {
             return write!(f, "Closed");
         }
-        let state = self.sync_state;
-        write!(f, "{state:?}")
+        match self.sync_state {
+            SyncState::Clean => write!(f, "Clean"),
+            SyncState::Dirty => write!(f, "Dirty"),
+            SyncState::Pending => write!(f, "Pending"),
+        }
     }
 }
 

@@ -1,7 +1,7 @@
 // Worked cases of a station, shown of the definitions that the writer's promises name.
 ghost use mathlib.Core.Path.{_≡_};
 ghost use lib.ListN.{length};
-ghost use Rattle.buffer.specs.Station.{table, StationCases};
+ghost use Rattle.station.specs.Cases.{table, StationCases};
 
 // The number of the worked cases: a full tip, a packet behind it, late packets across and below the tip's
 // start, a cut and a gap, a resize to the size, a cut inside the tip, a long sparse packet, empty reads.

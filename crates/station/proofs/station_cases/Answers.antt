@@ -1,6 +1,6 @@
 use mathlib.Core.Path.{refl}
-use Rattle.buffer.proofs.Cases.{station-cases}
-use Rattle.buffer.proofs.station.station_cases.Needs as need
+use Rattle.station.proofs.Table.{station-cases}
+use Rattle.station.proofs.station_cases.Needs as need
 
 pub returns : need.returns
 returns c = record { count = refl; shown = station-cases }

@@ -1,0 +1,3 @@
+mod Sure
+mod Captures
+mod Table
