@@ -1,9 +1,2 @@
 pub mod Lists
 mod Tips
-mod Stores
-pub mod Makings
-pub mod Keeps
-pub mod Ready
-mod OnePiece
-pub mod Concluding
-mod Gathering

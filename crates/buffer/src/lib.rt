@@ -1,6 +1,5 @@
-// The buffered writer: packets are gathered in a tip in memory and passed on to a blob.
+// What a packet enters first: its list of pieces, and the tip that gathers bytes in memory; and the refusals
+// that a writer over them gives.
 pub mod error;
 pub mod pieces;
-pub mod sync_state;
 pub mod tip;
-pub mod write;

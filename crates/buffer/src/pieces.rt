@@ -67,7 +67,7 @@ impl PieceList<'_> {
     }
 
     // The bytes of a piece that lies inside the area.
-    pub(crate) fn run(&self, piece: &Piece) -> &[u8]
+    pub fn run(&self, piece: &Piece) -> &[u8]
         requires { ⌜ inside (length (now (now self .area))) (now piece) ≡ true ⌝ }
         ensures { λ r. ⌜ now r ≡ run (now (now (self .entry) .area)) (now (piece .entry)) ⌝ }
     {

@@ -21,7 +21,7 @@ pub struct Buffer {
 
 impl Buffer {
     // An empty tip at `offset`.
-    pub(crate) fn new(offset: u64, capacity: usize) -> Buffer
+    pub fn new(offset: u64, capacity: usize) -> Buffer
         ensures { λ r. ⌜ r ≡ fresh offset capacity ⌝ }
     {
         Buffer {
@@ -33,35 +33,35 @@ impl Buffer {
     }
 
     // Where the capture ends, buffered bytes included.
-    pub(crate) fn size(&self) -> u64
+    pub fn size(&self) -> u64
         requires { ⌜ Sized (now self) ⌝ }
         ensures { λ r. ⌜ r ≡ now (self .entry) .offset + now (self .entry) .len ⌝ }
     {
         self.offset + self.len as u64
     }
 
-    pub(crate) fn is_empty(&self) -> bool
+    pub fn is_empty(&self) -> bool
         ensures { λ r. ⌜ r ≡ Rattle.buffer.specs.Tip.empty (now (self .entry)) ⌝ }
     {
         self.len == 0
     }
 
     // The place of the first buffered byte.
-    pub(crate) fn offset(&self) -> u64
+    pub fn offset(&self) -> u64
         ensures { λ r. ⌜ r ≡ now (self .entry) .offset ⌝ }
     {
         self.offset
     }
 
     // How many of the `n` bytes from `place` on lie below the offset.
-    pub(crate) fn below(&self, place: u64, n: usize) -> usize
+    pub fn below(&self, place: u64, n: usize) -> usize
         ensures { λ r. ⌜ r ≡ below (now (self .entry)) place n ⌝ }
     {
         (self.offset.saturating_sub(place)).min(n as u64) as usize
     }
 
     // The held bytes from `start` to `end`.
-    pub(crate) fn slice(&self, start: usize, end: usize) -> &[u8]
+    pub fn slice(&self, start: usize, end: usize) -> &[u8]
         requires { ⌜ (start ≤ end) × (end ≤ 4096) ⌝ }
         ensures { λ r. ⌜ now r ≡ part (now (self .entry) .bytes) start (end - start) ⌝ }
     {
@@ -69,7 +69,7 @@ impl Buffer {
     }
 
     // The buffered bytes.
-    pub(crate) fn buffered(&self) -> &[u8]
+    pub fn buffered(&self) -> &[u8]
         requires { ⌜ Sized (now self) ⌝ }
         ensures { λ r. ⌜ now r ≡ buffered (now (self .entry)) ⌝ }
     {
@@ -78,7 +78,7 @@ impl Buffer {
 
     // Merges the run into the tip where it fits between the offset and the capacity. A gap in the tip
     // becomes zeros. Answers whether it fitted; where it did not, nothing has changed.
-    pub(crate) fn merge(&mut self, place: u64, run: &[u8]) -> bool
+    pub fn merge(&mut self, place: u64, run: &[u8]) -> bool
         requires { ⌜ Sized (now self) ⌝ }
         ensures { λ r. ⌜ Merges (now (self .entry)) place (now (run .entry)) r (now (self .exit)) ⌝ }
     {
@@ -101,7 +101,7 @@ impl Buffer {
 
     // Empties the tip: the range that it held, as its offset and its length, unless it was empty. The
     // offset moves to the range's end. The bytes stay to be read until the next merge.
-    pub(crate) fn take(&mut self) -> Option<(u64, usize)>
+    pub fn take(&mut self) -> Option<(u64, usize)>
         requires { ⌜ Sized (now self) ⌝ }
         ensures { λ r. ⌜ Drains (now (self .entry)) r (now (self .exit)) ⌝ }
     {
@@ -116,7 +116,7 @@ impl Buffer {
 
     // Fits the tip to a capture of `len` bytes. At or above the size it is emptied and the range that it
     // held is handed out; inside it is shortened; below it is emptied. The offset of an empty tip is `len`.
-    pub(crate) fn resize(&mut self, len: u64) -> Option<(u64, usize)>
+    pub fn resize(&mut self, len: u64) -> Option<(u64, usize)>
         requires { ⌜ Sized (now self) ⌝ }
         ensures { λ r. ⌜ Resized (now (self .entry)) len r (now (self .exit)) ⌝ }
     {
@@ -131,7 +131,7 @@ impl Buffer {
     }
 
     // Lifts an offset below `end` to it.
-    pub(crate) fn raise(&mut self, end: u64)
+    pub fn raise(&mut self, end: u64)
         ensures { λ _. ⌜ now (self .exit) ≡ raised (now (self .entry)) end ⌝ }
     {
         self.offset = self.offset.max(end);

@@ -1,7 +1,7 @@
 -- A session whose writer, if it has one, is as its making and its calls leave it.
 use Rattle.blobs.specs.contracts.flat.FlatDisk.the-impl.{ghosts}
-use Rattle.buffer.specs.Steps.{Consistent}
-use Rattle.buffer.specs.View.{view}
+use Rattle.writer.specs.Steps.{Consistent}
+use Rattle.writer.specs.View.{view}
 use mathlib.Core.List.{List, map}
 use Prim.Native.Nat.{ℕ, min}
 use lib.ListN.{length, take}

@@ -5,7 +5,7 @@ use blobs::flat::StartError;
 use blobs::flat::StartErrorDisplay;
 use buffer::error::Error;
 use buffer::error::ErrorDisplay;
-use buffer::sync_state::SyncState;
+use writer::sync_state::SyncState;
 use call_list::Mistake;
 use call_list::MistakeDisplay;
 use std::alloc::AllocError;

@@ -1,7 +1,7 @@
 // What the calls of a list are performed on.
 ghost use Rattle.blobs.specs.contracts.flat.FlatDisk.the-impl.{ghosts};
-ghost use Rattle.buffer.specs.Steps.{Consistent};
-ghost use Rattle.buffer.specs.View.{view};
+ghost use Rattle.writer.specs.Steps.{Consistent};
+ghost use Rattle.writer.specs.View.{view};
 ghost use mathlib.Core.Path.{_≡_};
 ghost use Prim.Native.Nat.{_*_};
 ghost use lib.ListN.{length, replicate};
@@ -19,8 +19,8 @@ use blobs::flat::FlatReadable;
 use buffer::error::Error;
 use buffer::pieces::Piece;
 use buffer::pieces::PieceList;
-use buffer::write::Write;
-use buffer::write::check_capacity;
+use writer::write::Write;
+use writer::write::check_capacity;
 use call_list::Call;
 use call_list::Span;
 use std::alloc::AllocError;

@@ -16,11 +16,11 @@ use Rattle.blob.specs.Bytes.{laid, resized}
 use Rattle.blob.proofs.Bytes.{laid-nothing}
 use Rattle.buffer.specs.declared.error.Step.the-variants.{Flush, DirectWrite}
 use Rattle.buffer.specs.declared.tip.Buffer.{Buffer}
-use Rattle.buffer.specs.declared.sync_state.WriteOptions.the-variants as options
+use Rattle.writer.specs.declared.sync_state.WriteOptions.the-variants as options
 use Rattle.buffer.specs.Tip.{Sized, Within, Beyond, buffered, holding, Resized}
-use Rattle.buffer.specs.Boxes.{Boxes, Flushes, MergesRun, WritesRun, PlacesRun, LaysRun, ResizesBoxes}
-use Rattle.buffer.proofs.Keeps.{store-writes-content, store-resizes-content}
-use Rattle.buffer.proofs.Ready.{buffered-length}
+use Rattle.writer.specs.Boxes.{Boxes, Flushes, MergesRun, WritesRun, PlacesRun, LaysRun, ResizesBoxes}
+use Rattle.writer.proofs.Keeps.{store-writes-content, store-resizes-content}
+use Rattle.writer.proofs.Ready.{buffered-length}
 
 pub record Model : Type 0 where
   pub content : List ℕ

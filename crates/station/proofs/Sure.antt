@@ -12,13 +12,13 @@ use Rattle.blob.specs.Meaning.{Disk, Answer, broken, Lasts, Writes, SyncWrites,
 use Rattle.blob.specs.declared.BlobError.the-variants.{DeviceFault}
 use Rattle.buffer.specs.declared.error.Step.{Step}
 use Rattle.buffer.specs.declared.error.Step.the-variants.{Flush, DirectWrite, Resize, Sync, Wait}
-use Rattle.buffer.specs.declared.sync_state.SyncState.{SyncState}
-use Rattle.buffer.specs.declared.sync_state.SyncState.the-variants.{Clean, Dirty, Pending}
-use Rattle.buffer.specs.declared.sync_state.WriteOptions.{WriteOptions}
-use Rattle.buffer.specs.declared.sync_state.WriteOptions.the-variants as options
+use Rattle.writer.specs.declared.sync_state.SyncState.{SyncState}
+use Rattle.writer.specs.declared.sync_state.SyncState.the-variants.{Clean, Dirty, Pending}
+use Rattle.writer.specs.declared.sync_state.WriteOptions.{WriteOptions}
+use Rattle.writer.specs.declared.sync_state.WriteOptions.the-variants as options
 use Rattle.buffer.specs.Tip.{buffered}
-use Rattle.buffer.specs.Stores.{Store, Outcome, Nothing, Then, Asks, WaitsFrom, Waits, WritesFrom, StoreWrites, StoreResizes}
-use Rattle.buffer.specs.Boxes.{Boxes, Flushes, MergesRun, WritesRun, PlacesRun, LaysRun, ResizesBoxes}
+use Rattle.writer.specs.Stores.{Store, Outcome, Nothing, Then, Asks, WaitsFrom, Waits, WritesFrom, StoreWrites, StoreResizes}
+use Rattle.writer.specs.Boxes.{Boxes, Flushes, MergesRun, WritesRun, PlacesRun, LaysRun, ResizesBoxes}
 
 -- A sound blob has no broken sync.
 pub record Fine (d : Disk) : Type 0 where

@@ -18,14 +18,14 @@ use Rattle.buffer.specs.declared.error.Error.{Error}
 use Rattle.buffer.specs.declared.error.Error.the-variants.{BadCapacity, TooManyPieces, BadPiece, OffsetOverflow, NoRoom, BlobInsufficientLength, Closed, DeviceFault}
 use Rattle.buffer.specs.declared.pieces.Piece.{Piece}
 use Rattle.buffer.specs.Pieces.{inside, run, carries, total, all-inside}
-use Rattle.buffer.specs.Stores.{Outcome}
-use Rattle.buffer.specs.Boxes.{Boxes, LaysRun, LaysPieces}
-use Rattle.buffer.specs.Steps.{State, limit, size, Consistent, made, WriteAt, ResizeTo, ReadAt}
+use Rattle.writer.specs.Stores.{Outcome}
+use Rattle.writer.specs.Boxes.{Boxes, LaysRun, LaysPieces}
+use Rattle.writer.specs.Steps.{State, limit, size, Consistent, made, WriteAt, ResizeTo, ReadAt}
 use Rattle.station.specs.Cases.{Call, write, resize, read, Takes, answer, Run, Row, Ends, Each, table, empty, StationCases}
 use Rattle.buffer.proofs.Lists.{and-true}
-use Rattle.buffer.proofs.Makings.{made-consistent}
-use Rattle.buffer.proofs.Ready.{Stays, run-stays, resizes-stays, run-length, buffered-length}
-use Rattle.buffer.proofs.Concluding.{ready}
+use Rattle.writer.proofs.Makings.{made-consistent}
+use Rattle.writer.proofs.Ready.{Stays, run-stays, resizes-stays, run-length, buffered-length}
+use Rattle.writer.proofs.Concluding.{ready}
 use Rattle.station.proofs.Sure.{Fine, run-certain, resize-certain}
 use Rattle.station.proofs.Captures.{Model, made-of, model, lays, cut, run-model, resize-model}
 

@@ -12,7 +12,7 @@ use Rattle.blob.specs.declared.StartedSync.{StartedSync}
 use Rattle.buffer.specs.declared.error.Error.{Error}
 use Rattle.buffer.specs.Numbers.{number}
 use Rattle.buffer.specs.Tip.{buffered}
-use Rattle.buffer.specs.Steps.{State, made, WriteAt, ResizeTo, ReadAt}
+use Rattle.writer.specs.Steps.{State, made, WriteAt, ResizeTo, ReadAt}
 
 pub data Call : Type 0 where
   write : ℕ → List ℕ → Call

@@ -1,0 +1,7 @@
+mod Stores
+pub mod Makings
+pub mod Keeps
+pub mod Ready
+mod OnePiece
+pub mod Concluding
+mod Gathering

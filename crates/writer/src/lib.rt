@@ -1,0 +1,3 @@
+// The buffered writer: packets are gathered in a tip and passed on to a blob.
+pub mod sync_state;
+pub mod write;
