@@ -41,7 +41,7 @@ part-front x y limit n long short each =
         getD-take n (drop limit x) k 0 low ∙ getD-drop limit x k 0 ∙ each k low ∙ sym (getD-take n y k 0 low))
 
 module _ (area : List ℕ) (len p : ℕ) (bs : List ℕ) (starts : len ≤ length area) (ends : p + length bs ≤ length area) (filled : 0 < length bs) where
-  lay-length : length (laid (laid area len (replicate (p - len) 0)) p bs) ≡ length area
+  pub lay-length : length (laid (laid area len (replicate (p - len) 0)) p bs) ≡ length area
   lay-length =
       let same = gap-length area len p starts (omega arith) in
       length-laid-within (laid area len (replicate (p - len) 0)) p bs (omega arith) ∙ same
@@ -135,14 +135,24 @@ content-part area len p n within starts =
         ∙ sym (getD-drop p area k 0)
         ∙ sym (getD-take n (drop p area) k 0 low))
 
--- the array copied behind itself
-module _ (area after : List ℕ) (len limit : ℕ) (same : length after ≡ length area) (fits : len ≤ limit) (long : limit + len ≤ length area) (below : (k d : ℕ) → k < limit → getD after k d ≡ getD area k d) (copy : (k d : ℕ) → limit ≤ k → k < limit + (len - 0) → getD after k d ≡ getD area (0 + (k - limit)) d) where
-  pub copy-content : take len after ≡ take len area
-  copy-content = front-same after area len same (λ k low. below k 0 (omega arith))
+-- the array laid into the area behind itself
+module _ (area : List ℕ) (len limit : ℕ) (fits : len ≤ limit) (long : limit + len ≤ length area) where
+  front-length : length (take len area) ≡ len
+  front-length = length-take len area ∙ omega arith
 
-  pub copy-durable : part after limit len ≡ take len area
+  copied-length : length (laid area limit (take len area)) ≡ length area
+  copied-length = let l = front-length in length-laid-within area limit (take len area) (omega arith)
+
+  pub copy-content : take len (laid area limit (take len area)) ≡ take len area
+  copy-content = front-same _ area len copied-length (λ k low. at-laid-below area limit (take len area) k (omega arith))
+
+  pub copy-durable : part (laid area limit (take len area)) limit len ≡ take len area
   copy-durable =
-      part-front after area limit len (omega arith) (omega arith)
+      let l = front-length in
+      let same = copied-length in
+      part-front _ area limit len (omega arith) (omega arith)
       (λ k low.
-          let back : 0 + (limit + k - limit) ≡ k = omega arith in
-          copy (limit + k) 0 (omega arith) (omega arith) ∙ ap (at area) back)
+          let back : limit + k - limit ≡ k = omega arith in
+          at-laid-in area limit (take len area) (limit + k) (omega arith) (omega arith)
+          ∙ ap (at (take len area)) back
+          ∙ getD-take len area k 0 low)

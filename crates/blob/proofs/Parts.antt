@@ -7,7 +7,8 @@ use native.Mathlib.Omega.{arith}
 use native.Mathlib.Nat.{add-zero}
 use borrow.Rule.Slice.PartMut.{putMid}
 use lib.ListN.{length, take, drop, replicate}
-use Rattle.std.proofs.shelf.Lists.{take-append-le, drop-drop, take-append-drop, nil-from-length}
+use lib.Seq.{paste}
+use Rattle.std.proofs.shelf.Lists.{append-assoc, length-take-le, take-append-le, drop-drop, take-append-drop, nil-from-length}
 use Rattle.std.proofs.shelf.Tests.{cases-lt}
 use Rattle.blob.specs.Bytes.{laid}
 use Rattle.blob.proofs.Bytes.{laid-is, laid-nothing}
@@ -29,3 +30,10 @@ put-laid a k xs ys fits same =
         ∙ take-append-drop a xs
         ∙ sym (laid-nothing xs a ys (omega arith)))
     (cases-lt 0 (length ys))
+
+-- and so is a copy from another part
+pub paste-laid : (d : List ℕ) (at : ℕ) (s : List ℕ) (n : ℕ) → at + n ≤ length d → n ≤ length s → paste d at s n ≡ laid d at (take n s)
+paste-laid d at s n fits long =
+    append-assoc (take at d) (take n s) (drop (at + n) d)
+    ∙ ap (λ z. take at d ++ (take n s ++ z)) (sym (drop-drop n at d))
+    ∙ put-laid at n d (take n s) fits (length-take-le n s long)

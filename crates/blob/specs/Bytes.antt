@@ -2,7 +2,7 @@
 use mathlib.Core.Path.{_≡_}
 use mathlib.Core.List.{List, [], _∷_, _++_}
 use mathlib.Core.Logic.{_⊎_}
-use Prim.Native.Nat.{ℕ, _+_, _-_}
+use Prim.Native.Nat.{ℕ, _+_, _-_, _≤_}
 use lib.ListN.{length, getD, take, drop, replicate}
 
 -- The byte at a place; a place at or past the end counts as zero.
@@ -21,6 +21,10 @@ laid c p (b ∷ bs) = take p (c ++ replicate (p - length c) 0) ++ ((b ∷ bs) ++
 -- The array cut to n bytes, or with zeros added up to n.
 unfoldable pub resized : List ℕ → ℕ → List ℕ
 resized c n = take n c ++ replicate (n - length c) 0
+
+-- The array has room up to a place.
+abbrev pub Reaches : List ℕ → ℕ → Type 0
+Reaches c end = end ≤ length c
 
 -- Mixed: each place holds the old byte or the new one, zero past either end, and the length is the old
 -- one or the new one.

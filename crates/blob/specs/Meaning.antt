@@ -79,6 +79,13 @@ Reads c p out (Err NoRoom) c′ out′ = ⊥
 Reads c p out (Err BlobInsufficientLength) c′ out′ = ReadPast c p out c′ out′
 Reads c p out (Err (DeviceFault code)) c′ out′ = ReadFails c p out c′ out′ code
 
+-- A sound blob's read does not fail, and leaves it sound.
+abbrev pub StaysSound : Bool → Answer → Bool → Type 0
+StaysSound before (Ok _) after = before ≡ true → after ≡ true
+StaysSound before (Err NoRoom) after = ⊥
+StaysSound before (Err BlobInsufficientLength) after = after ≡ before
+StaysSound before (Err (DeviceFault code)) after = before ≡ false
+
 -- What the writer's own read leaves beside the content: all, and only an unsound blob fails.
 abbrev pub ReadKeeps : Disk → Answer → Disk → Type 0
 ReadKeeps b (Ok _) c = Kept b c
@@ -184,4 +191,4 @@ abbrev pub Finishes : Disk → Answer → Disk → Type 0
 Finishes b (Ok _) c = ((b .started ≡ Started) × Synced b c Done) ⊎ (Again b Done c × (b .durable ≡ b .content)) ⊎ Again b Idle c
 Finishes b (Err NoRoom) c = ⊥
 Finishes b (Err BlobInsufficientLength) c = ⊥
-Finishes b (Err (DeviceFault code)) c = ((b .started ≡ Started) × Breaks b code c) ⊎ Again b (Broken code) c
+Finishes b (Err (DeviceFault code)) c = ((b .started ≡ Started) × Breaks b code c) ⊎ (Again b (Broken code) c × Code code)

@@ -1,12 +1,12 @@
 // Writes into the middle of an area of bytes.
 ghost use mathlib.Core.Path.{_≡_};
-ghost use Prim.Native.Nat.{_+_, _-_, _≤_};
+ghost use Prim.Native.Nat.{_+_, _-_};
 ghost use lib.ListN.{length, replicate};
-ghost use Rattle.blob.specs.Bytes.{laid};
+ghost use Rattle.blob.specs.Bytes.{laid, Reaches};
 
 // Copies `bytes` into the area from `start` on.
 pub fn put(area: &mut [u8], start: usize, bytes: &[u8])
-    requires { ⌜ start + length (now bytes) ≤ length (now area) ⌝ }
+    requires { ⌜ Reaches (now area) (start + length (now bytes)) ⌝ }
     ensures { λ _. ⌜ now (area .exit) ≡ laid (now (area .entry)) start (now (bytes .entry)) ⌝ }
 {
     let end = start + bytes.len();
@@ -15,7 +15,7 @@ pub fn put(area: &mut [u8], start: usize, bytes: &[u8])
 
 // Fills the area with zeros from `start` up to `end`.
 pub fn clear(area: &mut [u8], start: usize, end: usize)
-    requires { ⌜ end ≤ length (now area) ⌝ }
+    requires { ⌜ Reaches (now area) end ⌝ }
     ensures { λ _. ⌜ now (area .exit) ≡ laid (now (area .entry)) start (replicate (end - start) 0) ⌝ }
 {
     if start < end {
@@ -25,7 +25,7 @@ pub fn clear(area: &mut [u8], start: usize, end: usize)
 
 // Puts `bytes` at `start` of the array of `len` bytes that the area begins with, and zeros in a gap before them.
 pub fn lay(area: &mut [u8], len: usize, start: usize, bytes: &[u8])
-    requires { ⌜ (len ≤ length (now area)) × (start + length (now bytes) ≤ length (now area)) ⌝ }
+    requires { ⌜ Reaches (now area) len × Reaches (now area) (start + length (now bytes)) ⌝ }
     ensures { λ _. ⌜ now (area .exit) ≡ laid (laid (now (area .entry)) len (replicate (start - len) 0)) start (now (bytes .entry)) ⌝ }
 {
     clear(area, len, start);

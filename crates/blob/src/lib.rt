@@ -1,11 +1,11 @@
 // What a blob means: the bytes that a recorder writes to and reads from, what of them a power cut leaves,
 // and what each call may do to both.
 ghost use mathlib.Core.Path.{_≡_};
-ghost use mathlib.Core.Bool.{true, false};
+ghost use mathlib.Core.Bool.{Bool, true, false};
 ghost use mathlib.Core.List.{List};
 ghost use Prim.Native.Nat.{ℕ};
 ghost use lib.ListN.{length};
-ghost use Rattle.blob.specs.Meaning.{Disk, broken, Limited, Reads, ReadKeeps, Writes, SyncWrites, Resizes, Syncs, Starts, Finishes};
+ghost use Rattle.blob.specs.Meaning.{Disk, broken, Limited, Reads, StaysSound, ReadKeeps, Writes, SyncWrites, Resizes, Syncs, Starts, Finishes};
 ghost use Rattle.blob.specs.Numbers.{number};
 
 pub mod area;
@@ -49,20 +49,25 @@ pub enum StartedSync {
 pub trait Readable {
     ghost content: { Self → List ℕ };
 
+    // Whether no call will ever give a device fault.
+    ghost sound: { Self → Bool };
+
     fn len(&self) -> u64
         ensures { λ r. ⌜ r ≡ length (content (now (self .entry))) ⌝ };
 
     // Fills `out` with the bytes from `place` on.
     fn read_at(&mut self, place: u64, out: &mut [u8]) -> Result<(), BlobError>
-        ensures { λ r. ⌜ Reads (content (now (self .entry))) place (now (out .entry)) r (content (now (self .exit))) (now (out .exit)) ⌝ };
+        ensures bytes { λ r. ⌜ Reads (content (now (self .entry))) place (now (out .entry)) r (content (now (self .exit))) (now (out .exit)) ⌝ }
+        ensures sound { λ r. ⌜ StaysSound (sound (now (self .entry))) r (sound (now (self .exit))) ⌝ };
 }
 
-// What can be written: beside the content a durable image, an unchanging limit, a started sync, and
-// whether the blob is sound, which is to say that it gives no device fault now or later.
+// What can be written: beside the content a durable image, an unchanging limit and a started sync.
 pub trait Blob: Readable {
     ghost disk: { Self → Disk };
 
     law agrees: { (x : Self) → disk x .content ≡ Self·Readable .content x };
+
+    law sounds: { (x : Self) → disk x .sound ≡ Self·Readable .sound x };
 
     law unbroken: { (x : Self) → disk x .sound ≡ true → broken (disk x .started) ≡ false };
 

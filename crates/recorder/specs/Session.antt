@@ -1,5 +1,5 @@
 -- A session whose writer, if it has one, is as its making and its calls leave it.
-use Rattle.blobs.specs.contracts.flat.FlatDisk.the-impl.{ghosts}
+use Rattle.blobs.specs.contracts.flat.calls.FlatDisk.the-impl.{ghosts}
 use Rattle.writer.specs.Steps.{Consistent}
 use Rattle.writer.specs.View.{view}
 use mathlib.Core.List.{List, map}

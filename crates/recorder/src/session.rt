@@ -1,5 +1,5 @@
 // What the calls of a list are performed on.
-ghost use Rattle.blobs.specs.contracts.flat.FlatDisk.the-impl.{ghosts};
+ghost use Rattle.blobs.specs.contracts.flat.calls.FlatDisk.the-impl.{ghosts};
 ghost use Rattle.writer.specs.Steps.{Consistent};
 ghost use Rattle.writer.specs.View.{view};
 ghost use mathlib.Core.Path.{_≡_};

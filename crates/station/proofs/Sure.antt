@@ -79,7 +79,7 @@ finishes-sure : Sure (Asks Finishes Wait 0 Clean)
 finishes-sure =
     asks-sure Finishes Wait 0 Clean
     (λ b c h w. ⊎-elim (λ d. fine-by b c Done h (d .1 .lasts) (d .1 .started) refl) (⊎-elim (λ d. same-fine b c h (d .0 .same)) (λ i. same-fine b c h (i .same))) w)
-    (λ b code c h w. ⊎-elim (λ d. unsound b h (d .1 .unsound)) (λ i. clash (sym (h .unbroken) ∙ ap broken (i .was))) w)
+    (λ b code c h w. ⊎-elim (λ d. unsound b h (d .1 .unsound)) (λ i. clash (sym (h .unbroken) ∙ ap broken (i .0 .was))) w)
 
 waits-from-sure : (y : SyncState) → Sure (WaitsFrom y)
 waits-from-sure Clean = nothing-sure

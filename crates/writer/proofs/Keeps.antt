@@ -50,7 +50,7 @@ finishes-limit : (b : Disk) (a : Answer) (c : Disk) → Finishes b a c → c .li
 finishes-limit b (Ok x) c w = ⊎-elim (λ d. d .1 .lasts .limit) (⊎-elim (λ d. ap limited (d .0 .same)) (λ i. ap limited (i .same))) w
 finishes-limit b (Err NoRoom) c w = absurd w
 finishes-limit b (Err BlobInsufficientLength) c w = absurd w
-finishes-limit b (Err (DeviceFault code)) c w = ⊎-elim (λ d. d .1 .limit) (λ i. ap limited (i .same)) w
+finishes-limit b (Err (DeviceFault code)) c w = ⊎-elim (λ d. d .1 .limit) (λ i. ap limited (i .0 .same)) w
 
 -- and so no part of a writer's call
 abbrev pub Limits : (Store → Outcome → Store → Type 0) → Type 0

@@ -1,8 +1,7 @@
-use mathlib.Core.Path.{_≡_, refl, ap, ap₂, sym, _∙_}
+use mathlib.Core.Path.{_≡_, refl, ap₂, sym, _∙_}
 use Prim.Native.Nat.{_-_}
 use native.Mathlib.Omega.{arith}
 use lib.ListN.{length, take, drop, length-take}
-use Rattle.blob.specs.Bytes.{part}
 use Rattle.blob.proofs.Areas.{content-part}
 use Rattle.blobs.proofs.flat.FlatBlob.copy_out.Needs as need
 
@@ -16,12 +15,12 @@ returns c =
     let long : c .in-Some .end - p ≡ n = omega (arith, c .in-Some .ensures tt) in
     record {
       bytes = record {
-      within = omega (arith, c .in-Some .ensures tt);
-      bytes =
-          c .copy-from-slice .ensures .after
-          ∙ ap₂ (λ m x. take m (drop p x)) long (c .deref .ensures .value)
-          ∙ sym (content-part (s .area .items) (s .len) p n (omega (arith, c .in-Some .ensures tt)) (omega arith));
-      same = refl;
+        within = omega (arith, c .in-Some .ensures tt);
+        bytes =
+            c .copy-from-slice .ensures .after
+            ∙ ap₂ (λ m x. take m (drop p x)) long (c .deref .ensures .value)
+            ∙ sym (content-part (s .area .items) (s .len) p n (omega (arith, c .in-Some .ensures tt)) (omega arith));
+        same = refl;
       };
       sure = tt;
     }

@@ -1,7 +1,7 @@
 use mathlib.Core.Path.{refl}
 use native.Mathlib.Omega.{arith}
-use lib.ListN.{take, drop, length-take, length-drop}
-use Rattle.blobs.proofs.flat.FlatDisk.limit.Needs as need
+use lib.ListN.{drop, length-take}
+use Rattle.blobs.proofs.flat.calls.FlatDisk.limit.Needs as need
 
 pub returns : need.returns
 returns c =
