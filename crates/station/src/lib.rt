@@ -11,3 +11,6 @@ pub fn station_cases() -> usize
 {
     9
 }
+
+#[cfg(test)]
+mod tests;
