@@ -58,11 +58,11 @@ pub at-laid-below : (c : List ℕ) (p : ℕ) (bs : List ℕ) (k : ℕ) → k < p
 at-laid-below c p bs k low =
     ⊎-elim
     (λ filled.
-        let front : k < length (take p (c ++ replicate (p - length c) 0)) = rw length-front low in
-        ap (λ x. at x k) (laid-is c p bs filled)
-        ∙ getD-append-left (take p (c ++ replicate (p - length c) 0)) (bs ++ drop (p + length bs) c) 0 k front
-        ∙ getD-take p (c ++ replicate (p - length c) 0) k 0 low
-        ∙ at-padded c (p - length c) k)
+    let front : k < length (take p (c ++ replicate (p - length c) 0)) = rw length-front low in
+    ap (λ x. at x k) (laid-is c p bs filled)
+    ∙ getD-append-left (take p (c ++ replicate (p - length c) 0)) (bs ++ drop (p + length bs) c) 0 k front
+    ∙ getD-take p (c ++ replicate (p - length c) 0) k 0 low
+    ∙ at-padded c (p - length c) k)
     (λ none. ap (λ x. at x k) (laid-nothing c p bs (omega arith)))
     (cases-lt 0 (length bs))
 
@@ -70,12 +70,12 @@ pub at-laid-above : (c : List ℕ) (p : ℕ) (bs : List ℕ) (k : ℕ) → p + l
 at-laid-above c p bs k high =
     ⊎-elim
     (λ filled.
-        let moved : p + length bs + (k - p - length bs) ≡ k = omega arith in
-        ap (λ x. at x k) (laid-is c p bs filled)
-        ∙ getD-append-right (take p (c ++ replicate (p - length c) 0)) (bs ++ drop (p + length bs) c) p k 0 (length-front c p) (omega arith)
-        ∙ getD-append-right bs (drop (p + length bs) c) (length bs) (k - p) 0 refl (omega arith)
-        ∙ getD-drop (p + length bs) c (k - p - length bs) 0
-        ∙ ap (at c) moved)
+    let moved : p + length bs + (k - p - length bs) ≡ k = omega arith in
+    ap (λ x. at x k) (laid-is c p bs filled)
+    ∙ getD-append-right (take p (c ++ replicate (p - length c) 0)) (bs ++ drop (p + length bs) c) p k 0 (length-front c p) (omega arith)
+    ∙ getD-append-right bs (drop (p + length bs) c) (length bs) (k - p) 0 refl (omega arith)
+    ∙ getD-drop (p + length bs) c (k - p - length bs) 0
+    ∙ ap (at c) moved)
     (λ none. ap (λ x. at x k) (laid-nothing c p bs (omega arith)))
     (cases-lt 0 (length bs))
 

@@ -17,18 +17,18 @@ pub put-laid : (a k : ℕ) (xs ys : List ℕ) → a + k ≤ length xs → length
 put-laid a k xs ys fits same =
     ⊎-elim
     (λ filled.
-        let short : a ≤ length xs = omega arith in
-        ap (λ z. take a xs ++ (ys ++ z)) (drop-drop k a xs)
-        ∙ ap (λ n. take a xs ++ (ys ++ drop (a + n) xs)) (sym same)
-        ∙ ap (λ z. z ++ (ys ++ drop (a + length ys) xs)) (sym (take-append-le a xs (replicate (a - length xs) 0) short))
-        ∙ sym (laid-is xs a ys filled))
+    let short : a ≤ length xs = omega arith in
+    ap (λ z. take a xs ++ (ys ++ z)) (drop-drop k a xs)
+    ∙ ap (λ n. take a xs ++ (ys ++ drop (a + n) xs)) (sym same)
+    ∙ ap (λ z. z ++ (ys ++ drop (a + length ys) xs)) (sym (take-append-le a xs (replicate (a - length xs) 0) short))
+    ∙ sym (laid-is xs a ys filled))
     (λ none.
-        let gone : ys ≡ [] = nil-from-length ys (omega arith) in
-        let zero : k ≡ 0 = omega arith in
-        ap (λ z. take a xs ++ (z ++ drop k (drop a xs))) gone
-        ∙ ap (λ n. take a xs ++ drop n (drop a xs)) zero
-        ∙ take-append-drop a xs
-        ∙ sym (laid-nothing xs a ys (omega arith)))
+    let gone : ys ≡ [] = nil-from-length ys (omega arith) in
+    let zero : k ≡ 0 = omega arith in
+    ap (λ z. take a xs ++ (z ++ drop k (drop a xs))) gone
+    ∙ ap (λ n. take a xs ++ drop n (drop a xs)) zero
+    ∙ take-append-drop a xs
+    ∙ sym (laid-nothing xs a ys (omega arith)))
     (cases-lt 0 (length ys))
 
 -- and so is a copy from another part

@@ -3,6 +3,8 @@ use mathlib.Core.List.{List, _++_}
 use Prim.Native.Nat.{ℕ}
 use lib.Chars.{codes}
 use Rattle.std.specs.Written.{decimal}
+use Rattle.blob.specs.Numbers.{number as blob-number}
+use Rattle.blob.specs.declared.BlobError.the-variants as answers
 use Rattle.buffer.specs.declared.error.Step.{Step}
 use Rattle.buffer.specs.declared.error.Step.the-variants.{Flush, DirectWrite, Resize, Sync, Wait, Read}
 use Rattle.buffer.specs.declared.error.Error.{Error}
@@ -16,15 +18,16 @@ step-number Sync = 4
 step-number Wait = 5
 step-number Read = 6
 
+-- What a blob can refuse too has the number that it has there.
 abbrev pub number : Error → ℕ
 number BadCapacity = 1
 number TooManyPieces = 2
 number (BadPiece i) = 3
 number OffsetOverflow = 4
-number NoRoom = 5
-number BlobInsufficientLength = 6
+number NoRoom = blob-number answers.NoRoom
+number BlobInsufficientLength = blob-number answers.BlobInsufficientLength
 number Closed = 8
-number (DeviceFault fault) = 9
+number (DeviceFault fault) = blob-number (answers.DeviceFault (fault .code))
 
 -- Its name, with the values that it carries: the number of the offending piece; the step, the code and the
 -- place of a fault.

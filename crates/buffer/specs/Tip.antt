@@ -20,6 +20,10 @@ pub record Sized (t : Buffer) : Type 0 where
   pub fits : t .len ≤ t .capacity
   pub low : t .offset + t .len ≤ 2 ^ 62
 
+-- A part of the bytes that a tip holds.
+abbrev pub HeldPart : ℕ → ℕ → Type 0
+HeldPart start end = (start ≤ end) × (end ≤ 4096)
+
 -- A new tip holds zeros.
 abbrev pub fresh : ℕ → ℕ → Buffer
 fresh offset capacity = record { bytes = replicate 4096 0; len = 0; offset = offset; capacity = capacity }

@@ -1,13 +1,21 @@
 // The tip: the bytes at the end of the capture that have not been passed to the blob yet.
 ghost use mathlib.Core.Path.{_≡_};
 ghost use Prim.Native.Nat.{_+_, _-_, _≤_};
-ghost use Rattle.blob.specs.Bytes.{part};
-ghost use Rattle.buffer.specs.Tip.{Sized, Merges, Drains, Resized, raised, fresh, below, buffered};
-
+ghost use lib.ListN.{length};
+ghost use Rattle.blob.specs.Bytes.{part as part-of};
+ghost use Rattle.buffer.specs.Tip.{Sized, HeldPart, Merges, Drains, Resized, raised, fresh, below, buffered};
 use blob::area::clear;
 
 // The most bytes that a tip can hold.
 pub const MAX_CAPACITY: usize = 4096;
+
+// Fills a part of the tip with a run of the same length.
+fn copy_run(part: &mut [u8], run: &[u8])
+    requires { ⌜ length (now part) ≡ length (now run) ⌝ }
+    ensures { λ _. ⌜ now (part .exit) ≡ now (run .entry) ⌝ }
+{
+    part.copy_from_slice(run);
+}
 
 #[derive(Drop)]
 pub struct Buffer {
@@ -62,8 +70,8 @@ impl Buffer {
 
     // The held bytes from `start` to `end`.
     pub fn slice(&self, start: usize, end: usize) -> &[u8]
-        requires { ⌜ (start ≤ end) × (end ≤ 4096) ⌝ }
-        ensures { λ r. ⌜ now r ≡ part (now (self .entry) .bytes) start (end - start) ⌝ }
+        requires { ⌜ HeldPart start end ⌝ }
+        ensures { λ r. ⌜ now r ≡ part-of (now (self .entry) .bytes) start (end - start) ⌝ }
     {
         &self.bytes[start..end]
     }
@@ -94,7 +102,7 @@ impl Buffer {
         let start = (place - self.offset) as usize;
         let end = start + run.len();
         clear(&mut self.bytes, self.len, start);
-        self.bytes[start..end].copy_from_slice(run);
+        copy_run(&mut self.bytes[start..end], run);
         self.len = self.len.max(end);
         true
     }

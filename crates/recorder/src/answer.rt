@@ -5,11 +5,11 @@ use blobs::flat::StartError;
 use blobs::flat::StartErrorDisplay;
 use buffer::error::Error;
 use buffer::error::ErrorDisplay;
-use writer::sync_state::SyncState;
 use call_list::Mistake;
 use call_list::MistakeDisplay;
 use std::alloc::AllocError;
 use std::fmt;
+use writer::sync_state::SyncState;
 
 // The tip, the blob and the durable image, and what is known of durability.
 #[derive(Drop)]
@@ -64,7 +64,10 @@ pub impl fmt::Display for Problem as ProblemDisplay {
             Problem::NoBlob => write!(f, "there is no blob"),
             Problem::NoWriter => write!(f, "there is no writer"),
             Problem::BlobHeld => write!(f, "a writer holds the blob"),
-            Problem::UnequalImages => write!(f, "the content and the durable image differ in length"),
+            Problem::UnequalImages => write!(
+                f,
+                "the content and the durable image differ in length"
+            ),
             Problem::OutOfMemory => write!(f, "memory cannot hold it"),
         }
     }
@@ -76,7 +79,10 @@ pub impl fmt::Display for Drawing as DrawingDisplay {
         let tip = Hex(self.tip.as_slice());
         let content = Hex(self.content.as_slice());
         let durable = Hex(self.durable.as_slice());
-        write!(f, "[tip at {offset}: {tip}] -> [blob: {content}] -> [durable: {durable}] ")?;
+        write!(
+            f,
+            "[tip at {offset}: {tip}] -> [blob: {content}] -> [durable: {durable}] "
+        )?;
         if self.closed {
             return write!(f, "Closed");
         }

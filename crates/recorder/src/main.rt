@@ -34,7 +34,12 @@ fn input(rt: &LibcRuntime) -> Result<Vec<u8>, AnyError> {
 }
 
 // Performs one line of the list and prints what it answers. A line to be skipped prints nothing.
-fn perform(rt: &LibcRuntime, session: &mut Session, number: u64, line: &[u8]) -> Result<(), AnyError>
+fn perform(
+    rt: &LibcRuntime,
+    session: &mut Session,
+    number: u64,
+    line: &[u8],
+) -> Result<(), AnyError>
     requires { ⌜ Sane (now session) ⌝ }
     ensures { λ _. ⌜ Sane (now (session .exit)) ⌝ }
 {

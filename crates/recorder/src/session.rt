@@ -19,13 +19,13 @@ use blobs::flat::FlatReadable;
 use buffer::error::Error;
 use buffer::pieces::Piece;
 use buffer::pieces::PieceList;
-use writer::write::Write;
-use writer::write::check_capacity;
 use call_list::Call;
 use call_list::Span;
 use std::alloc::AllocError;
 use std::alloc::Global;
 use std::mem;
+use writer::write::Write;
+use writer::write::check_capacity;
 
 #[derive(Drop)]
 pub enum Session {
@@ -93,7 +93,13 @@ fn drawing(heap: Global, writer: &Write<FlatBlob>) -> Result<Drawing, AllocError
 
 impl Session {
     // A new flat blob in the place of whatever was there.
-    fn make_flat(&mut self, heap: Global, limit: u64, content: &[u8], durable: &[u8]) -> Result<Answer, Problem>
+    fn make_flat(
+        &mut self,
+        heap: Global,
+        limit: u64,
+        content: &[u8],
+        durable: &[u8],
+    ) -> Result<Answer, Problem>
         requires { ⌜ Sane (now self) ⌝ }
         ensures { λ _. ⌜ Sane (now (self .exit)) ⌝ }
     {
@@ -186,7 +192,10 @@ fn perform_on(heap: Global, writer: &mut Write<FlatBlob>, call: &Call) -> Result
             };
             Ok(answered(writer.write_at(*place, &list)))
         }
-        Call::TryWriteAt { place, bytes } => Ok(Answer::YesNo(writer.try_write_at(*place, bytes.as_slice()))),
+        Call::TryWriteAt { place, bytes } => Ok(Answer::YesNo(writer.try_write_at(
+            *place,
+            bytes.as_slice(),
+        ))),
         Call::Resize { len } => Ok(answered(writer.resize(*len))),
         Call::Sync => Ok(answered(writer.sync())),
         Call::ReadAt { place, len } => read_back(heap, writer, *place, *len),
@@ -197,7 +206,12 @@ fn perform_on(heap: Global, writer: &mut Write<FlatBlob>, call: &Call) -> Result
 }
 
 // Reads into an output that is made only for a read that the writer does not refuse.
-fn read_back(heap: Global, writer: &mut Write<FlatBlob>, place: u64, len: u64) -> Result<Answer, Problem>
+fn read_back(
+    heap: Global,
+    writer: &mut Write<FlatBlob>,
+    place: u64,
+    len: u64,
+) -> Result<Answer, Problem>
     requires { ⌜ Consistent (view (ghosts .disk) (now writer)) ⌝ }
     ensures { λ _. ⌜ Consistent (view (ghosts .disk) (now (writer .exit))) ⌝ }
 {

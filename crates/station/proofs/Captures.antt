@@ -128,8 +128,8 @@ resize-model n s t z (inl a) =
     let filled = a .filled in
     let above = a .above in
     let content =
-        store-resizes-content n m (t .store) resize
-        ∙ ap (λ c. resized c n) (store-writes-content options.Plain Flush (s .tip .offset) (buffered (s .tip)) (s .store) m (omega arith) write) in
+    store-resizes-content n m (t .store) resize
+    ∙ ap (λ c. resized c n) (store-writes-content options.Plain Flush (s .tip .offset) (buffered (s .tip)) (s .store) m (omega arith) write) in
     let whole : s .tip .offset + length (buffered (s .tip)) ≤ n = omega arith in
     ap₂ (λ c (u : Buffer). made-of c (u .offset) (buffered u) (u .capacity)) content (a .tip)
     ∙ sym (cond-true _ _ _ (le-leb _ _ whole))
@@ -137,21 +137,23 @@ resize-model n s t z (inr w) = within (w .tip)
   where
     long : length (buffered (s .tip)) ≡ s .tip .len
     long = buffered-length (s .tip) z
+
     content : t .store .disk .content ≡ resized (s .store .disk .content) n
     content = store-resizes-content n (s .store) (t .store) (w .resizes)
+
     within : Resized (s .tip) n None (t .tip) → model t ≡ cut (model s) n
     within (inl (none, is)) =
         let l = long in
         let gone = laid-nothing (s .store .disk .content) (s .tip .offset) (buffered (s .tip)) (omega arith) in
         cut-model n s t _ is content
         ∙ ⊎-elim
-          (λ low.
-              let short : n < s .tip .offset + length (buffered (s .tip)) = omega arith in
-              sym (cond-false _ _ _ (lt-leb _ _ short) ∙ cond-false _ _ _ (lt-leb _ _ low)))
-          (λ high.
-              let whole : s .tip .offset + length (buffered (s .tip)) ≤ n = omega arith in
-              ap (λ c. made-of (resized c n) n [] (s .tip .capacity)) (sym gone) ∙ sym (cond-true _ _ _ (le-leb _ _ whole)))
-          (cases-lt n (s .tip .offset))
+        (λ low.
+        let short : n < s .tip .offset + length (buffered (s .tip)) = omega arith in
+        sym (cond-false _ _ _ (lt-leb _ _ short) ∙ cond-false _ _ _ (lt-leb _ _ low)))
+        (λ high.
+        let whole : s .tip .offset + length (buffered (s .tip)) ≤ n = omega arith in
+        ap (λ c. made-of (resized c n) n [] (s .tip .capacity)) (sym gone) ∙ sym (cond-true _ _ _ (le-leb _ _ whole)))
+        (cases-lt n (s .tip .offset))
     within (inr (inl (some, starts, ends, is))) =
         let l = long in
         let short : n < s .tip .offset + length (buffered (s .tip)) = omega arith in

@@ -255,9 +255,22 @@ tested-row row a b c = record { sensible = a; answers = b; ends = c }
 
 pub tested : Each Tested table
 unfolding Rattle.blob.specs.Bytes.laid Rattle.blob.specs.Bytes.resized
-tested =
-    (tested-row _ refl refl refl, (tested-row _ refl refl refl, (tested-row _ refl refl refl, (tested-row _ refl refl refl, (tested-row _ refl refl refl,
-    (tested-row _ refl refl refl, (tested-row _ refl refl refl, (tested-row _ refl refl refl, (tested-row _ refl refl refl, tt)))))))))
+tested = (
+  tested-row _ refl refl refl,
+  (
+    tested-row _ refl refl refl,
+    (
+      tested-row _ refl refl refl,
+      (
+        tested-row _ refl refl refl,
+        (
+          tested-row _ refl refl refl,
+          (tested-row _ refl refl refl, (tested-row _ refl refl refl, (tested-row _ refl refl refl, (tested-row _ refl refl refl, tt)))),
+        ),
+      ),
+    ),
+  ),
+)
 
 pub station-cases : StationCases
 station-cases durable started whole fits = each-ends durable started whole fits table tested

@@ -52,9 +52,10 @@ module _ (s : State) (place : ℕ) (run : List ℕ) (c : Consistent s) (running 
   pub tried : (yes′ : Bool) (u : Buffer) → Merges (s .boxes .tip) place run yes′ u → TryWriteAt s place run yes′ (after u (s .closed)) × Consistent (after u (s .closed))
   tried true u m =
       let fits = tried-fits place run (s .boxes) (ready s c running) filled room (m .0) in
-      let same : after u (s .closed) ≡ after (holding (s .boxes .tip) (laid (buffered (s .boxes .tip)) (place - s .boxes .tip .offset) run)) false = ap₂ after (m .1) running in
-      (inr (running, record { filled = filled; room = room; within = m .0; does = same }),
-       subst Consistent (sym same) (record { sized = fits .sized; small = fits .small; fits = λ _. fits .fits }))
+      let same : after u (s .closed) ≡ after (holding (s .boxes .tip) (laid (buffered (s .boxes .tip)) (place - s .boxes .tip .offset) run)) false = ap₂ after (m .1) running in (
+        inr (running, record { filled = filled; room = room; within = m .0; does = same }),
+        subst Consistent (sym same) (record { sized = fits .sized; small = fits .small; fits = λ _. fits .fits }),
+      )
   tried false u m =
       let same : after u (s .closed) ≡ s = ap (λ u. after u (s .closed)) (m .1) in
       (inr (record { running = running; because = (filled, inr (m .0)); same = same }), subst Consistent (sym same) c)

@@ -233,8 +233,10 @@ module _ (n : ℕ) where
     where
       offset : t .tip .offset ≡ n
       offset = ap (λ (b : Buffer). b .offset) (a .tip)
+
       len : t .tip .len ≡ 0
       len = ap (λ (b : Buffer). b .len) (a .tip)
+
       fits : (r : Outcome) → t .store .disk .limit ≡ s .store .disk .limit → Then (StoreWrites options.Plain Flush (s .tip .offset) (buffered (s .tip))) (StoreResizes n) (s .store) r (t .store) → Fitting r t
       fits (Ok x) same (m, w, k) =
           let o = offset in

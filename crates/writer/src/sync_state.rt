@@ -3,10 +3,10 @@ ghost use mathlib.Core.Path.{_≡_};
 ghost use Prim.Native.Nat.{_+_, _≤_};
 ghost use lib.ListN.{length};
 ghost use Rattle.writer.specs.Stores.{store, clean, Waits, StoreWrites, StoreResizes, StoreSyncs, Unrefused, Locates};
-use buffer::error::Fault;
-use buffer::error::Step;
 use blob::Blob;
 use blob::BlobError;
+use buffer::error::Fault;
+use buffer::error::Step;
 
 #[derive(Clone, Copy)]
 pub enum SyncState {
@@ -58,7 +58,14 @@ impl SyncState {
     }
 
     // Writes the bytes to the blob. A fault names `step`.
-    pub(crate) fn write_at<B: Blob>(&mut self, blob: &mut B, place: u64, bytes: &[u8], options: WriteOptions, step: Step) -> Result<(), Fault>
+    pub(crate) fn write_at<B: Blob>(
+        &mut self,
+        blob: &mut B,
+        place: u64,
+        bytes: &[u8],
+        options: WriteOptions,
+        step: Step,
+    ) -> Result<(), Fault>
         requires { ⌜ place + length (now bytes) ≤ disk (now blob) .limit ⌝ }
         ensures { λ r. ⌜ StoreWrites options step place (now (bytes .entry)) (store (disk (now (blob .entry))) (now (self .entry))) r (store (disk (now (blob .exit))) (now (self .exit))) ⌝ }
     {
@@ -69,7 +76,11 @@ impl SyncState {
                 *self = SyncState::Dirty;
                 Ok(())
             }
-            (SyncState::Clean, WriteOptions::Sync) => located(blob.write_at_sync(place, bytes), step, place),
+            (SyncState::Clean, WriteOptions::Sync) => located(
+                blob.write_at_sync(place, bytes),
+                step,
+                place,
+            ),
             (SyncState::Dirty, WriteOptions::Sync) => {
                 // Earlier changes need the sync too.
                 located(blob.write_at(place, bytes), step, place)?;

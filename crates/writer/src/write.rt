@@ -10,17 +10,17 @@ ghost use Rattle.writer.specs.Stores.{StoreWrites};
 ghost use Rattle.writer.specs.Boxes.{Flushes, WritesRun, PlacesRun, LaysRun, LaysPieces, ResizesBoxes, SyncsBoxes};
 ghost use Rattle.writer.specs.Steps.{Ready, Consistent, Writable, Admits, Concludes, WriteAt, TryWriteAt, ResizeTo, SyncAll, ChecksRead, ReadsBelow, Gathers, ReadAt, state, ChecksCapacity, made, size, needs-sync};
 ghost use Rattle.writer.specs.View.{parts, view};
+use crate::sync_state::SyncState;
+use crate::sync_state::WriteOptions;
+use crate::sync_state::located;
+use blob::Blob;
 use buffer::error::Error;
 use buffer::error::ErrorFromFault;
 use buffer::error::Fault;
 use buffer::error::Step;
 use buffer::pieces::PieceList;
-use crate::sync_state::SyncState;
-use crate::sync_state::WriteOptions;
-use crate::sync_state::located;
 use buffer::tip::Buffer;
 use buffer::tip::MAX_CAPACITY;
-use blob::Blob;
 
 #[derive(Drop)]
 pub struct Write<B> {
@@ -86,7 +86,13 @@ impl<B: Blob> Write<B> {
         ensures tip { λ _. ⌜ now (self .exit) .buffer ≡ now (self .entry) .buffer ⌝ }
         ensures running { λ _. ⌜ now (self .exit) .closed ≡ now (self .entry) .closed ⌝ }
     {
-        self.sync_state.write_at(&mut self.blob, offset, self.buffer.slice(0, len), options, Step::Flush)
+        self.sync_state.write_at(
+            &mut self.blob,
+            offset,
+            self.buffer.slice(0, len),
+            options,
+            Step::Flush,
+        )
     }
 
     // Empties the tip into the blob.
@@ -107,7 +113,14 @@ impl<B: Blob> Write<B> {
         ensures writes { λ r. ⌜ WritesRun place (now (run .entry)) (parts disk (now (self .entry))) r (parts disk (now (self .exit))) ⌝ }
         ensures running { λ _. ⌜ now (self .exit) .closed ≡ now (self .entry) .closed ⌝ }
     {
-        self.sync_state.write_at(&mut self.blob, place, run, WriteOptions::Plain, Step::DirectWrite)?;
+        self.sync_state
+            .write_at(
+                &mut self.blob,
+                place,
+                run,
+                WriteOptions::Plain,
+                Step::DirectWrite,
+            )?;
         self.buffer.raise(place + run.len() as u64);
         Ok(())
     }

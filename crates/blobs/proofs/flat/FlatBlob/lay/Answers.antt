@@ -14,7 +14,7 @@ returns c =
     let p = c .args .start in
     let ok = s .area .ok .0 in
     let items =
-        refilled-is (s .area) (c .lay .last .area) (omega arith)
-        ∙ c .lay .ensures
-        ∙ ap (λ x. laid (laid x (s .len) (replicate (p - s .len) 0)) p (c .args .bytes .now)) (c .deref-mut .ensures .value) in
+    refilled-is (s .area) (c .lay .last .area) (omega arith)
+    ∙ c .lay .ensures
+    ∙ ap (λ x. laid (laid x (s .len) (replicate (p - s .len) 0)) p (c .args .bytes .now)) (c .deref-mut .ensures .value) in
     ap₂ (λ x n. whole x (s .limit) n (s .«durable_len») Idle) items (omega arith)

@@ -15,8 +15,9 @@ loop-piece-again c =
     let i = c .loop-piece .piece-index in
     let more = ap (λ r. c .loop-piece .any || r) (sym (carries-more ps i (record { start = 0; len = 0 }) (c .loop-piece-test .taken))) ∙ c .loop-piece .inv in
     elim (c .if-piece-gt0 .came) [
-      then-piece-gt0 w ↦ ap (λ a. a || carries (drop (i + 1) ps)) (w .any-is) ∙ found _ _ _ _ (lt-ltb _ _ (w .if-piece-gt0 .taken)) more
-    | else-piece-gt0 w ↦ ap (λ a. a || carries (drop (i + 1) ps)) (w .any-is) ∙ missed _ _ _ _ (le-ltb _ _ (w .if-piece-gt0 .left)) more ]
+      | then-piece-gt0 w ↦ ap (λ a. a || carries (drop (i + 1) ps)) (w .any-is) ∙ found _ _ _ _ (lt-ltb _ _ (w .if-piece-gt0 .taken)) more
+      | else-piece-gt0 w ↦ ap (λ a. a || carries (drop (i + 1) ps)) (w .any-is) ∙ missed _ _ _ _ (le-ltb _ _ (w .if-piece-gt0 .left)) more
+    ]
 
 pub returns : need.returns
 returns c =

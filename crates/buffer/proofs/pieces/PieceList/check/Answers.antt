@@ -17,10 +17,12 @@ loop-i-again c =
     let z : Piece = record { start = 0; len = 0 } in
     let more = total-more ps i z (c .loop-i-test .taken) in
     let sound : inside n (getD ps i z) ≡ true = sym (c .if-not-is-inside .ensures tt) in
-    let bound = inside-bounds n (getD ps i z) sound in
-    (omega arith, omega arith,
-     ap (λ b. b && all-inside n (drop (i + 1) ps)) (sym sound) ∙ sym (inside-more ps i z (c .loop-i-test .taken) n) ∙ c .loop-i .inv .2,
-     c .loop-i .inv .3)
+    let bound = inside-bounds n (getD ps i z) sound in (
+      omega arith,
+      omega arith,
+      ap (λ b. b && all-inside n (drop (i + 1) ps)) (sym sound) ∙ sym (inside-more ps i z (c .loop-i-test .taken) n) ∙ c .loop-i .inv .2,
+      c .loop-i .inv .3,
+    )
 
 pub returns : need.returns
 returns c =

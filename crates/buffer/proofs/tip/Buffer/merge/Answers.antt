@@ -23,10 +23,10 @@ returns c =
     let start = c .args .place - t .offset in
     let filled : 0 < length run = search needs in
     let zeros = c .clear .ensures in
-    let copied = c .copy-from-slice .ensures .after in
+    let copied = c .copy-run .ensures in
     let same : length (c .clear .last .area) ≡ length (t .bytes) = c .clear .kept .area in
     let bytes =
-        put-laid start (start + length run - start) (c .clear .last .area) (c .copy-from-slice .last .self) (omega arith) (ap length copied ∙ omega arith)
-        ∙ ap (laid (c .clear .last .area) start) copied
-        ∙ ap (λ x. laid x start run) zeros in
+    put-laid start (start + length run - start) (c .clear .last .area) (c .copy-run .last .part) (omega arith) (ap length copied ∙ omega arith)
+    ∙ ap (laid (c .clear .last .area) start) copied
+    ∙ ap (λ x. laid x start run) zeros in
     ((c .if-place-self .left, omega arith), ap (λ b. with t b (c .max-self .result)) bytes ∙ merged-some t start run (c .pre) (omega arith) (c .max-self .result) filled (c .max-self .ensures))

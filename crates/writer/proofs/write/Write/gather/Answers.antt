@@ -79,11 +79,11 @@ returns g c =
     let z = c .pre .0 .sized in
     let room = c .pre .1 in
     let back =
-        c .copy-from-slice .ensures .after
-        ∙ c .slice .ensures
-        ∙ ap (λ x. take (start + (length half - k) - start) (drop start x)) bytes
-        ∙ ap₂ (λ p m. take m (drop p (tip .bytes))) starts count
-        ∙ sym (content-part (tip .bytes) (tip .len) (place - tip .offset) (n - below tip place n) (omega arith) (omega (arith, z .held, z .fits, z .most))) in
+    c .copy-from-slice .ensures .after
+    ∙ c .slice .ensures
+    ∙ ap (λ x. take (start + (length half - k) - start) (drop start x)) bytes
+    ∙ ap₂ (λ p m. take m (drop p (tip .bytes))) starts count
+    ∙ sym (content-part (tip .bytes) (tip .len) (place - tip .offset) (n - below tip place n) (omega arith) (omega (arith, z .held, z .fits, z .most))) in
     record {
       bytes =
           both-parts out front k (omega arith) first (c .copy-from-slice .last .self)

@@ -59,13 +59,16 @@ loop-piece-again g c =
     let low = c .loop-piece-test .taken in
     let stands = λ (w : Write (g .B .Denot)) (at : ℕ). Laying area ps (c .args .place) (parts disk (c .args .self .now)) (c .loop-piece .piece-index + 1) at (parts disk w) in
     elim (c .if-piece-gt0 .came) [
-      then-piece-gt0·in-Continue-lay-run w ↦
-        let laid = subst (λ x. LaysRun (c .loop-piece .at) x (parts disk (c .loop-piece .self)) (Ok tt) (parts disk (w .lay-run .last .self))) (w .run .ensures) (w .in-Continue-lay-run .ensures tt .lays) in
-        (subst₂ stands (sym (w .self-is)) (sym (w .at-is)) (here-laid area ps _ _ _ _ none _ low l (parts disk (w .lay-run .last .self)) (w .if-piece-gt0 .taken) laid),
-         ap (λ (w : Write (g .B .Denot)). w .closed) (w .self-is) ∙ w .in-Continue-lay-run .ensures tt .running ∙ c .loop-piece .inv .1)
-    | else-piece-gt0 w ↦
-        (subst₂ stands (sym (w .self-is)) (sym (w .at-is)) (here-empty area ps _ _ _ _ none _ low l (omega (arith, w .if-piece-gt0 .left))),
-         ap (λ (w : Write (g .B .Denot)). w .closed) (w .self-is) ∙ c .loop-piece .inv .1) ]
+      | then-piece-gt0·in-Continue-lay-run w ↦
+          let laid = subst (λ x. LaysRun (c .loop-piece .at) x (parts disk (c .loop-piece .self)) (Ok tt) (parts disk (w .lay-run .last .self))) (w .run .ensures) (w .in-Continue-lay-run .ensures tt .lays) in (
+            subst₂ stands (sym (w .self-is)) (sym (w .at-is)) (here-laid area ps _ _ _ _ none _ low l (parts disk (w .lay-run .last .self)) (w .if-piece-gt0 .taken) laid),
+            ap (λ (w : Write (g .B .Denot)). w .closed) (w .self-is) ∙ w .in-Continue-lay-run .ensures tt .running ∙ c .loop-piece .inv .1,
+          )
+      | else-piece-gt0 w ↦ (
+        subst₂ stands (sym (w .self-is)) (sym (w .at-is)) (here-empty area ps _ _ _ _ none _ low l (omega (arith, w .if-piece-gt0 .left))),
+        ap (λ (w : Write (g .B .Denot)). w .closed) (w .self-is) ∙ c .loop-piece .inv .1,
+      )
+    ]
 
 pub returns : need.returns
 returns g c =

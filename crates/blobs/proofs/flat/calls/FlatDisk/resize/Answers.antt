@@ -19,10 +19,10 @@ returns c =
     let n = c .args .len in
     let ok = s .area .ok .0 in
     let after =
-        ap (λ x. whole x (s .limit) n (s .«durable_len») Idle)
-        (refilled-is (s .area) (c .clear .last .area) (omega arith)
-        ∙ c .clear .ensures
-        ∙ ap (λ x. laid x (s .len) (replicate (n - s .len) 0)) (c .deref-mut .ensures .value)) in
+    ap (λ x. whole x (s .limit) n (s .«durable_len») Idle)
+    (refilled-is (s .area) (c .clear .last .area) (omega arith)
+    ∙ c .clear .ensures
+    ∙ ap (λ x. laid x (s .len) (replicate (n - s .len) 0)) (c .deref-mut .ensures .value)) in
     record {
       means = subst (λ g. Resizes (disk-of (shape s)) n (Ok tt) (disk-of g)) (sym after) (omega arith, resized-changed (shape s) (valid s) n (omega arith));
       exact = after;
