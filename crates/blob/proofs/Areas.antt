@@ -41,7 +41,7 @@ part-front x y limit n long short each =
     getD-take n (drop limit x) k 0 low ∙ getD-drop limit x k 0 ∙ each k low ∙ sym (getD-take n y k 0 low))
 
 module _ (area : List ℕ) (len p : ℕ) (bs : List ℕ) (starts : len ≤ length area) (ends : p + length bs ≤ length area) (filled : 0 < length bs) where
-  pub lay-length : length (laid (laid area len (replicate (p - len) 0)) p bs) ≡ length area
+  lay-length : length (laid (laid area len (replicate (p - len) 0)) p bs) ≡ length area
   lay-length =
       let same = gap-length area len p starts (omega arith) in
       length-laid-within (laid area len (replicate (p - len) 0)) p bs (omega arith) ∙ same

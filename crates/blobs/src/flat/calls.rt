@@ -150,7 +150,7 @@ pub impl Blob for FlatBlob as FlatDisk {
         ensures keeps { λ r. ⌜ ReadKeeps (disk-of (shape (now (self .entry)))) r (disk-of (shape (now (self .exit)))) ⌝ }
         ensures same { λ _. ⌜ shape (now (self .exit)) ≡ shape (now (self .entry)) ⌝ }
     {
-        self.copy_out(place, out)
+        self.read_at(place, out)
     }
 
     fn write_at(&mut self, place: u64, bytes: &[u8]) -> Result<(), BlobError>
@@ -169,13 +169,11 @@ pub impl Blob for FlatBlob as FlatDisk {
         ensures means { λ r. ⌜ SyncWrites (disk-of (shape (now (self .entry)))) place (now (bytes .entry)) r (disk-of (shape (now (self .exit)))) ⌝ }
         ensures exact { λ r. ⌜ AfterWrite (λ f. settled (wrote f place (now (bytes .entry))) Idle) (shape (now (self .entry))) (now (bytes .entry)) r (shape (now (self .exit))) ⌝ }
     {
-        if bytes.is_empty() {
+        self.write_at(place, bytes)?;
+        if bytes.len() == 0 {
             return Ok(());
         }
-        let end = self.end_within(place, bytes.len())?;
-        self.lay(place as usize, end, bytes);
-        self.settle(StartedSync::Idle);
-        Ok(())
+        self.sync()
     }
 
     fn resize(&mut self, len: u64) -> Result<(), BlobError>
