@@ -21,6 +21,8 @@ pub record Disk : Type 0 where
   pub limit : ℕ
   pub started : StartedSync
   pub sound : Bool
+  -- The code of the call that the device failed last, by which a caller's fault is held to the blob's.
+  pub failed : ℕ
 
 abbrev pub Answer : Type 0
 Answer = Result Unit BlobError
@@ -91,7 +93,7 @@ abbrev pub ReadKeeps : Disk → Answer → Disk → Type 0
 ReadKeeps b (Ok _) c = Kept b c
 ReadKeeps b (Err NoRoom) c = ⊥
 ReadKeeps b (Err BlobInsufficientLength) c = c ≡ b
-ReadKeeps b (Err (DeviceFault code)) c = Kept b c × (b .sound ≡ false)
+ReadKeeps b (Err (DeviceFault code)) c = Kept b c × (b .sound ≡ false) × (c .failed ≡ code)
 
 -- An accepted write or resize: `new` is the content that it asks for.
 pub record Changed (b : Disk) (new : List ℕ) (c : Disk) : Type 0 where
@@ -107,6 +109,7 @@ pub record Fails (b : Disk) (code : ℕ) (c : Disk) : Type 0 where
   pub limit : c .limit ≡ b .limit
   pub unsound : b .sound ≡ false
   pub coded : Code code
+  pub told : c .failed ≡ code
 
 -- A failed write or resize leaves each place and the length of the content old or new.
 pub record Torn (b : Disk) (new : List ℕ) (code : ℕ) (c : Disk) : Type 0 where

@@ -29,7 +29,7 @@ whole area limit len durable-len started = record { area = area; limit = limit; 
 
 -- A blob with these two images. A flat blob is always sound.
 abbrev pub images : ℕ → List ℕ → List ℕ → StartedSync → Disk
-images limit content durable started = record { content = content; durable = durable; limit = limit; started = started; sound = true }
+images limit content durable started = record { content = content; durable = durable; limit = limit; started = started; sound = true; failed = 0 }
 
 -- The content begins at the area's start and the durable image at the limit.
 abbrev pub disk-of : Flat → Disk

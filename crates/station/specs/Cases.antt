@@ -86,7 +86,7 @@ Each P [] = Unit {0}
 Each P (row ∷ rows) = P row × Each P rows
 
 abbrev pub empty : List ℕ → StartedSync → Disk
-empty durable started = record { content = []; durable = durable; limit = 64; started = started; sound = true }
+empty durable started = record { content = []; durable = durable; limit = 64; started = started; sound = true; failed = 0 }
 
 abbrev pub StationCases : Type 0
 StationCases = (durable : List ℕ) (started : StartedSync) → broken started ≡ false → length durable ≤ 64 → Each (λ row. (answers : List ℕ) (t : State) → Run (made (empty durable started) 4) (row .calls) answers t → Ends row answers t) table
