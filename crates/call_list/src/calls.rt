@@ -1,14 +1,14 @@
 //! The calls that a line can name.
 
 /// One piece of an area: `len` bytes from `start` on.
-#[derive(Clone, Copy, Debug, PartialEq, Eq)]
+#[derive(Clone, Copy, Debug)]
 pub struct Span {
     pub start: u64,
     pub len: u64,
 }
 
 /// One call, with its arguments.
-#[derive(Debug, PartialEq, Drop)]
+#[derive(Debug, Drop)]
 pub enum Call {
     Flat {
         limit: u64,

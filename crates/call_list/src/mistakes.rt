@@ -8,7 +8,7 @@ use std::alloc::Refused;
 use std::fmt;
 
 /// Why a line is no call. The number is that of the word that the mistake is about; the name of the call is word 0.
-#[derive(Clone, Copy, Debug, PartialEq, Eq)]
+#[derive(Clone, Copy)]
 pub enum Mistake {
     UnknownCall,
     MissingWord(usize),

@@ -7,15 +7,17 @@ ghost use Prim.Native.Nat.{_*_};
 ghost use lib.ListN.{length, replicate};
 ghost use Rattle.std.specs.Of.Vec.{vec-items};
 ghost use Rattle.std.specs.Vec.{made};
-ghost use Rattle.recorder.specs.Session.{Sane, halves, pieces};
+ghost use Rattle.std.specs.Results.{Cases};
+ghost use Rattle.call_list.specs.Calls.{plain};
+ghost use Rattle.recorder.specs.Session.{Sane, halves, area-of, pieces, told, said, result-told, start-told, drawn, drawing-of, images-of, ReadsBack, Does, Copies, MakesFlat, MakesWriter, Shows, Performs};
 use crate::answer::Answer;
 use crate::answer::Drawing;
 use crate::answer::Problem;
-use crate::answer::ProblemFromAlloc;
 use blob::area::put;
 use blobs::flat::FlatBlob;
 use blobs::flat::FlatDisk;
 use blobs::flat::FlatReadable;
+use blobs::flat::StartError;
 use buffer::error::Error;
 use buffer::pieces::Piece;
 use buffer::pieces::PieceList;
@@ -35,10 +37,21 @@ pub enum Session {
     Writing(Write<FlatBlob>),
 }
 
-fn answered(result: Result<(), Error>) -> Answer {
+fn answered(result: Result<(), Error>) -> Answer
+    ensures { λ r. ⌜ told r ≡ result-told result ⌝ }
+{
     match result {
         Ok(()) => Answer::Accepted,
         Err(error) => Answer::Refused(error),
+    }
+}
+
+fn started(result: Result<(), StartError>) -> Answer
+    ensures { λ r. ⌜ told r ≡ start-told result ⌝ }
+{
+    match result {
+        Ok(()) => Answer::Accepted,
+        Err(error) => Answer::BadStart(error),
     }
 }
 
@@ -54,11 +67,16 @@ fn lay_images(area: &mut [u8], half: usize, content: &[u8], durable: &[u8])
 }
 
 // The area of a flat blob with this limit and these images.
-fn flat_area(heap: Global, limit: u64, content: &[u8], durable: &[u8]) -> Result<Vec<u8>, Problem>
-    ensures { λ r. ⌜ made r (λ area. vec-items area ≡ halves (replicate (limit * 2) 0) limit (now (content .entry)) (now (durable .entry))) ⌝ }
+fn flat_area(
+    heap: Global,
+    limit: u64,
+    content: &[u8],
+    durable: &[u8],
+) -> Result<Vec<u8>, AllocError>
+    ensures { λ r. ⌜ made r (λ area. vec-items area ≡ area-of limit (now (content .entry)) (now (durable .entry))) ⌝ }
 {
     let Some(size) = limit.checked_mul(2) else {
-        return Err(Problem::OutOfMemory);
+        return Err(AllocError);
     };
     let mut area = vec![in heap; 0; size as usize]?;
     lay_images(&mut area, limit as usize, content, durable);
@@ -78,16 +96,34 @@ fn pieces_of(heap: Global, spans: &[Span]) -> Result<Vec<Piece>, AllocError>
     Ok(pieces)
 }
 
+// A copy of the bytes.
+fn copied(heap: Global, bytes: &[u8]) -> Result<Vec<u8>, AllocError>
+    ensures { λ r. ⌜ made r (λ v. vec-items v ≡ now (bytes .entry)) ⌝ }
+{
+    bytes.to_vec(heap)
+}
+
 fn drawing(heap: Global, writer: &Write<FlatBlob>) -> Result<Drawing, AllocError>
     requires { ⌜ Consistent (view (ghosts .disk) (now writer)) ⌝ }
+    ensures { λ r. ⌜ made r (λ d. drawn d ≡ drawing-of (view (ghosts .disk) (now (writer .entry)))) ⌝ }
 {
     Ok(Drawing {
         offset: writer.tip_offset(),
-        tip: writer.tip().to_vec(heap)?,
-        content: writer.blob().content().to_vec(heap)?,
-        durable: writer.blob().durable().to_vec(heap)?,
+        tip: copied(heap, writer.tip())?,
+        content: copied(heap, writer.blob().content())?,
+        durable: copied(heap, writer.blob().durable())?,
         sync_state: writer.sync_state(),
         closed: writer.is_closed(),
+    })
+}
+
+// What can be read of a blob, and what a power cut would leave.
+fn images_of(heap: Global, blob: &FlatBlob) -> Result<Answer, AllocError>
+    ensures { λ r. ⌜ made r (λ a. told a ≡ images-of (now (blob .entry))) ⌝ }
+{
+    Ok(Answer::Images {
+        content: copied(heap, blob.content())?,
+        durable: copied(heap, blob.durable())?,
     })
 }
 
@@ -101,17 +137,17 @@ impl Session {
         durable: &[u8],
     ) -> Result<Answer, Problem>
         requires { ⌜ Sane (now self) ⌝ }
-        ensures { λ _. ⌜ Sane (now (self .exit)) ⌝ }
+        ensures makes { λ r. ⌜ MakesFlat limit (now (content .entry)) (now (durable .entry)) (now (self .entry)) (said r) (now (self .exit)) ⌝ }
+        ensures sane { λ _. ⌜ Sane (now (self .exit)) ⌝ }
     {
         if content.len() != durable.len() {
             return Err(Problem::UnequalImages);
         }
-        let area = flat_area(heap, limit, content, durable)?;
-        let start = content.len() as u64;
-        let answer = match FlatBlob::check(area.len(), start) {
-            Ok(()) => Answer::Accepted,
-            Err(error) => Answer::BadStart(error),
+        let Ok(area) = flat_area(heap, limit, content, durable) else {
+            return Err(Problem::OutOfMemory);
         };
+        let start = content.len() as u64;
+        let answer = started(FlatBlob::check(area.len(), start));
         *self = Session::Free(FlatBlob::new(area, start));
         Ok(answer)
     }
@@ -119,7 +155,8 @@ impl Session {
     // A writer on the blob.
     fn make_writer(&mut self, capacity: u64) -> Result<Answer, Problem>
         requires { ⌜ Sane (now self) ⌝ }
-        ensures { λ _. ⌜ Sane (now (self .exit)) ⌝ }
+        ensures makes { λ r. ⌜ MakesWriter capacity (now (self .entry)) (said r) (now (self .exit)) ⌝ }
+        ensures sane { λ _. ⌜ Sane (now (self .exit)) ⌝ }
     {
         match mem::replace(self, Session::Empty) {
             Session::Empty => Err(Problem::NoBlob),
@@ -135,22 +172,22 @@ impl Session {
     }
 
     // What a power cut would leave, beside what can be read.
-    fn images(&self, heap: Global) -> Result<Answer, Problem> {
+    fn images(&self, heap: Global) -> Result<Answer, Problem>
+        ensures { λ r. ⌜ Shows (now (self .entry)) (said r) ⌝ }
+    {
         let blob = match self {
             Session::Empty => return Err(Problem::NoBlob),
             Session::Free(blob) => blob,
             Session::Writing(writer) => writer.blob(),
         };
-        Ok(Answer::Images {
-            content: blob.content().to_vec(heap)?,
-            durable: blob.durable().to_vec(heap)?,
-        })
+        images_of(heap, blob).or(Err(Problem::OutOfMemory))
     }
 
     // Performs one call.
     pub fn perform(&mut self, heap: Global, call: &Call) -> Result<Answer, Problem>
         requires { ⌜ Sane (now self) ⌝ }
-        ensures { λ _. ⌜ Sane (now (self .exit)) ⌝ }
+        ensures performs { λ r. ⌜ Performs (now (self .entry)) (plain (now (call .entry))) (said r) (now (self .exit)) ⌝ }
+        ensures sane { λ _. ⌜ Sane (now (self .exit)) ⌝ }
     {
         match call {
             Call::Flat {
@@ -167,7 +204,9 @@ impl Session {
             Call::Writer { capacity } => self.make_writer(*capacity),
             Call::Blob => self.images(heap),
             _ => match self {
-                Session::Writing(writer) => perform_on(heap, writer, call),
+                Session::Writing(writer) => perform_on(heap, writer, call).or(Err(
+                    Problem::OutOfMemory,
+                )),
                 _ => Err(Problem::NoWriter),
             },
         }
@@ -175,9 +214,10 @@ impl Session {
 }
 
 // Performs a call of a writer.
-fn perform_on(heap: Global, writer: &mut Write<FlatBlob>, call: &Call) -> Result<Answer, Problem>
+fn perform_on(heap: Global, writer: &mut Write<FlatBlob>, call: &Call) -> Result<Answer, AllocError>
     requires { ⌜ Consistent (view (ghosts .disk) (now writer)) ⌝ }
-    ensures { λ _. ⌜ Consistent (view (ghosts .disk) (now (writer .exit))) ⌝ }
+    ensures does { λ r. ⌜ Cases r (λ a. Does (plain (now (call .entry))) (view (ghosts .disk) (now (writer .entry))) (told a) (view (ghosts .disk) (now (writer .exit)))) (λ _. Copies (plain (now (call .entry))) × (now (writer .exit) ≡ now (writer .entry))) ⌝ }
+    ensures consistent { λ _. ⌜ Consistent (view (ghosts .disk) (now (writer .exit))) ⌝ }
 {
     match call {
         Call::WriteAt {
@@ -211,9 +251,10 @@ fn read_back(
     writer: &mut Write<FlatBlob>,
     place: u64,
     len: u64,
-) -> Result<Answer, Problem>
+) -> Result<Answer, AllocError>
     requires { ⌜ Consistent (view (ghosts .disk) (now writer)) ⌝ }
-    ensures { λ _. ⌜ Consistent (view (ghosts .disk) (now (writer .exit))) ⌝ }
+    ensures reads { λ r. ⌜ Cases r (λ a. ReadsBack (view (ghosts .disk) (now (writer .entry))) place len (told a) (view (ghosts .disk) (now (writer .exit)))) (λ _. now (writer .exit) ≡ now (writer .entry)) ⌝ }
+    ensures consistent { λ _. ⌜ Consistent (view (ghosts .disk) (now (writer .exit))) ⌝ }
 {
     if let Err(error) = writer.check_read(place, len) {
         return Ok(Answer::Refused(error));

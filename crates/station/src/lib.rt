@@ -13,4 +13,6 @@ pub fn station_cases() -> usize
 }
 
 #[cfg(test)]
-mod tests;
+mod lines;
+#[cfg(test)]
+mod runs;
