@@ -7,7 +7,6 @@ use buffer::error::Error;
 use buffer::error::ErrorDisplay;
 use call_list::Mistake;
 use call_list::MistakeDisplay;
-use std::alloc::AllocError;
 use std::fmt;
 use writer::sync_state::SyncState;
 
@@ -43,18 +42,6 @@ pub enum Problem {
     BlobHeld,
     UnequalImages,
     OutOfMemory,
-}
-
-pub impl From<AllocError> for Problem as ProblemFromAlloc {
-    fn from(_e: AllocError) -> Problem {
-        Problem::OutOfMemory
-    }
-}
-
-pub impl From<Mistake> for Problem as ProblemFromMistake {
-    fn from(mistake: Mistake) -> Problem {
-        Problem::Line(mistake)
-    }
 }
 
 pub impl fmt::Display for Problem as ProblemDisplay {

@@ -6,7 +6,6 @@ ghost use Rattle.recorder.specs.Session.{Sane};
 use answer::AnswerDisplay;
 use answer::Problem;
 use answer::ProblemDisplay;
-use answer::ProblemFromMistake;
 use call_list::read_line;
 use session::Session;
 use std::alloc::Global;

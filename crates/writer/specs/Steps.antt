@@ -176,8 +176,8 @@ size s = cond (s .closed) 0 (s .boxes .tip .offset + s .boxes .tip .len)
 abbrev pub needs-sync : State → Bool
 needs-sync s = not (s .closed) && (ltb 0 (s .boxes .tip .len) || not (clean (s .boxes .store .sync)))
 
--- read_at: the bytes below the tip's offset, if any, come by one read of the blob. Nothing but the output
--- changes. A fault does not close the writer, and leaves the output.
+-- read_at: the bytes below the tip's offset, if any, come from the blob. Nothing but the output changes. A
+-- fault does not close the writer, and leaves the output.
 pub record InRange (s : State) (place n : ℕ) : Type 0 where
   pub running : s .closed ≡ false
   pub fits : place + n < 2 ^ 64
@@ -195,7 +195,7 @@ ChecksRead s place n (Err BlobInsufficientLength) = (s .closed ≡ false) × (pl
 ChecksRead s place n (Err Closed) = s .closed ≡ true
 ChecksRead s place n (Err (DeviceFault fault)) = ⊥
 
--- One read of the blob, unless no byte is wanted of it.
+-- What reading from the blob leaves of it; where no byte is wanted, it is not touched.
 abbrev pub Asked : ℕ → Disk → Disk → Type 0
 Asked n b c = ((n ≡ 0) × (c ≡ b)) ⊎ ((0 < n) × ReadKeeps b (Ok tt) c)
 
