@@ -1,5 +1,7 @@
 // What a blob means: the bytes that a recorder writes to and reads from, what of them a power cut leaves,
 // and what each call may do to both.
+#![tactic(auto)]
+
 ghost use Rattle.std.specs.Prelude.{◌≡◌, ℕ, Bool, true, false, List, length};
 ghost use Rattle.blob.specs.Meaning.{Disk, broken, Limited, Reads, StaysSound, ReadKeeps, Writes, SyncWrites, Resizes, Syncs, Starts, Finishes};
 ghost use Rattle.blob.specs.Numbers.{number};

@@ -1,2 +1,4 @@
 // The blobs that a recorder can stand on.
+#![tactic(auto)]
+
 pub mod flat;

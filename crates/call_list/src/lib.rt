@@ -14,6 +14,8 @@
 //!
 //! `meaning`, in specs/Calls.antt, says the same of every line, and the contract of `read_line` rests on it. A further call
 //! is a variant of `Call`, a row of `table_of`, an arm of `call_named` and the function that the arm calls.
+#![tactic(auto)]
+
 ghost use Rattle.std.specs.Prelude.{◌≡◌, ◌<◌, length};
 ghost use Rattle.std.specs.Option.{option_map};
 ghost use Rattle.call_list.specs.Calls.{plain, flat_of, writer_of, resize_of, write_of, write_pieces_of, try_write_of, read_of, bare, named, table_of, call_of, meaning};

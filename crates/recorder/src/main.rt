@@ -1,4 +1,6 @@
 // Performs a call list on a writer over a flat blob, and prints one line for each call.
+#![tactic(auto)]
+
 ghost use Rattle.std.specs.Prelude.{◌≡◌, ℕ, ◌<◌, ◌≤◌, length, ◌≢◌, slice_index};
 ghost use Rattle.recorder.specs.Session.{Sane};
 

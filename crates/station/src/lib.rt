@@ -1,4 +1,6 @@
 // Worked cases of a station, shown of the definitions that the writer's promises name.
+#![tactic(auto)]
+
 ghost use Rattle.std.specs.Prelude.{◌≡◌, length};
 ghost use Rattle.station.specs.Cases.{table, StationCases};
 

@@ -1,3 +1,5 @@
 // The buffered writer: packets are gathered in a tip and passed on to a blob.
+#![tactic(auto)]
+
 pub mod sync_state;
 pub mod write;

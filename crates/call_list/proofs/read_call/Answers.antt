@@ -7,7 +7,7 @@ use Rattle.call_list.proofs.read_call.Goals as goal
 
 pub returns-in-Ok : goal.returns-in-Ok
 returns-in-Ok c =
-    arm c.call-named.result c.args.words.now (content_there c.args.words.now 0 _ c.requires ∙ sym c.in-Ok.ensures.cases.0) c.call-named.ensures
+    arm c.call_named.result c.args.words.now (content_there c.args.words.now 0 _ c.requires ∙ sym c.in-Ok.ensures.cases.0) c.call_named.ensures
 
 pub returns-in-Err : goal.returns-in-Err
 returns-in-Err c =

@@ -5,5 +5,5 @@ use Rattle.blob.proofs.area.put.Goals as goal
 
 pub returns : goal.returns
 returns c =
-    put-laid _ _ c.args.area.now c.copy-from-slice.new.self (omega arith) (omega (arith, ap lib.ListN.length c.copy-from-slice.ensures.after))
-    ∙ ap (laid c.args.area.now c.args.start) c.copy-from-slice.ensures.after
+    put-laid _ _ c.args.area.now c.copy_from_slice.new.self (omega arith) (omega (arith, ap lib.ListN.length c.copy_from_slice.ensures.after))
+    ∙ ap (laid c.args.area.now c.args.start) c.copy_from_slice.ensures.after

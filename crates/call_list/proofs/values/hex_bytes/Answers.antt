@@ -7,7 +7,7 @@ loop-i-preserved c = (
   omega arith,
   omega arith,
   bytes_more _ _ c.args.digits.now c.loop-i.i c.loop-i.invariant.2 _ (omega arith)
-      (c.in-ok-push.ensures.items ∙ ap (λ b. vec_items c.loop-i.bytes ++ (b ∷ [])) c.hex-byte.ensures),
+      (c.in_ok-push.ensures.items ∙ ap (λ b. vec_items c.loop-i.bytes ++ (b ∷ [])) c.hex_byte.ensures),
 )
 
 pub returns : goal.returns

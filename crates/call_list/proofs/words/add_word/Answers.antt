@@ -3,6 +3,6 @@ use Rattle.call_list.specs.Line.{contents}
 use Rattle.call_list.proofs.Splits.{added, added_none}
 use Rattle.call_list.proofs.words.add_word.Goals as goal
 
-pub returns-in-ok-push : goal.returns-in-ok-push
-returns-in-ok-push c =
-    ap contents c.in-ok-push.ensures.items ∙ added _ c.args.word (omega (arith, false-eqb _ 0 c.if-not-is-empty.ensures))
+pub returns-in_ok-push : goal.returns-in_ok-push
+returns-in_ok-push c =
+    ap contents c.in_ok-push.ensures.items ∙ added _ c.args.word (omega (arith, false-eqb _ 0 c.if-not-is_empty.ensures))

@@ -5,8 +5,8 @@ use Rattle.recorder.proofs.session.flat_area.Goals as goal
 
 pub returns : goal.returns
 returns c =
-    let area = c.in-ok-area.area in
+    let area = c.in_ok-area.area in
     let ok = area.ok.0 in
-    with_items_is area c.lay-images.new.area (omega arith)
-    ∙ c.lay-images.ensures
-    ∙ ap (λ x. halves x c.args.limit c.args.content.now c.args.durable.now) (c.deref-mut.ensures.value ∙ c.in-ok-area.ensures.items-if-clones-equal (λ y h. h) ∙ ap (λ n. replicate n 0) c.in-Some.ensures.1)
+    with_items_is area c.lay_images.new.area (omega arith)
+    ∙ c.lay_images.ensures
+    ∙ ap (λ x. halves x c.args.limit c.args.content.now c.args.durable.now) (c.deref_mut.ensures.value ∙ c.in_ok-area.ensures.items-if-clones-equal (λ y h. h) ∙ ap (λ n. replicate n 0) c.in-Some.ensures.1)

@@ -12,7 +12,7 @@ piece s = record { start = s.start; len = s.len }
 pub loop-span-preserved : goal.loop-span-preserved
 loop-span-preserved c =
     let none : Span = record { start = 0; len = 0 } in
-    pushed _ c.loop-span.invariant c.in-ok-push.was c.push.ensures.items
+    pushed _ c.loop-span.invariant c.in_ok-push.was c.push.ensures.items
     ∙ sym (map_more piece c.args.spans.now c.loop-span.span-index none c.loop-span-test.true)
 
 pub returns : goal.returns

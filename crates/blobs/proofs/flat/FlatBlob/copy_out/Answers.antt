@@ -14,7 +14,7 @@ returns c =
       bytes = record {
         within = omega (arith, c.in-Some.ensures);
         bytes =
-            c.copy-from-slice.ensures.after
+            c.copy_from_slice.ensures.after
             ∙ ap₂ (λ m x. take m (drop p x)) long c.deref.ensures.value
             ∙ sym (content_part s.area.items s.len p n (omega (arith, c.in-Some.ensures)) (omega arith));
         same = refl;

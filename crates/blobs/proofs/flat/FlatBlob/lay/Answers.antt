@@ -13,5 +13,5 @@ returns c =
     let items =
     with_items_is s.area c.lay.new.area (omega arith)
     ∙ c.lay.ensures
-    ∙ ap (λ x. laid (laid x s.len (replicate (p - s.len) 0)) p c.args.bytes.now) c.deref-mut.ensures.value in
+    ∙ ap (λ x. laid (laid x s.len (replicate (p - s.len) 0)) p c.args.bytes.now) c.deref_mut.ensures.value in
     ap₂ (λ x n. whole x s.limit n s.durable_len Idle) items (omega arith)

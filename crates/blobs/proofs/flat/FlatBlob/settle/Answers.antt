@@ -5,13 +5,13 @@ use Rattle.blob.proofs.Parts.{paste-laid}
 use Rattle.blobs.specs.Flat.{whole}
 use Rattle.blobs.proofs.flat.FlatBlob.settle.Goals as goal
 
-pub invariant-of-self : goal.invariant-of-self
-invariant-of-self c =
+pub invariant_of-self : goal.invariant_of-self
+invariant_of-self c =
     let s = c.args.self.now in
     let ok = s.area.ok.0 in
-    let len = c.copy-within.ensures.len in
+    let len = c.copy_within.ensures.len in
     let same : s.len - 0 ≡ s.len = omega arith in
-    let items = c.copy-within.ensures.items ∙ paste-laid s.area.items s.limit s.area.items (s.len - 0) (omega arith) (omega arith) ∙ ap (λ n. laid s.area.items s.limit (take n s.area.items)) same in
+    let items = c.copy_within.ensures.items ∙ paste-laid s.area.items s.limit s.area.items (s.len - 0) (omega arith) (omega arith) ∙ ap (λ n. laid s.area.items s.limit (take n s.area.items)) same in
     let front = ap (take s.len) items ∙ copy_content s.area.items s.len s.limit s.content_fits (omega arith) in
     let back = ap (λ x. part x s.limit s.len) items ∙ copy_durable s.area.items s.len s.limit s.content_fits (omega arith) in
     (omega (arith, s.halves), (s.small, (s.content_fits, (s.content_fits, (c.requires, ((λ _. back ∙ sym front), tt))))))
@@ -22,4 +22,4 @@ returns c =
     let ok = s.area.ok.0 in
     let same : s.len - 0 ≡ s.len = omega arith in
     ap (λ x. whole x s.limit s.len s.len c.args.after)
-    (c.copy-within.ensures.items ∙ paste-laid s.area.items s.limit s.area.items (s.len - 0) (omega arith) (omega arith) ∙ ap (λ n. laid s.area.items s.limit (take n s.area.items)) same)
+    (c.copy_within.ensures.items ∙ paste-laid s.area.items s.limit s.area.items (s.len - 0) (omega arith) (omega arith) ∙ ap (λ n. laid s.area.items s.limit (take n s.area.items)) same)

@@ -12,7 +12,7 @@ loop-i-preserved c =
     let i = c.loop-i.i in
     let z : Piece = record { start = 0; len = 0 } in
     let more = total_more ps i z c.loop-i-test.true in
-    let sound : inside n (get_or ps i z) ≡ true = sym c.if-not-is-inside.ensures in
+    let sound : inside n (get_or ps i z) ≡ true = sym c.if-not-is_inside.ensures in
     let bound = inside_bounds n (get_or ps i z) sound in (
       omega arith,
       omega arith,

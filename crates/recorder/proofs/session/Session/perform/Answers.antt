@@ -47,12 +47,12 @@ pub returns-in-Writing : goal.returns-in-Writing
 returns-in-Writing c =
     let call = c.args.call.now in
     let w = c.in-Writing.writer in
-    let w' = c.perform-on.new.writer in
-    let result = c.perform-on.result in
+    let w' = c.perform_on.new.writer in
+    let result = c.perform_on.result in
     let before : Session → Type 0 = λ s. OnWriter (plain call) s (said (result_or result (Err OutOfMemory))) (Writing w') in
     let answered : Result Answer Problem → Type 0 = λ r. OnWriter (plain call) c.args.self.now (said r) (Writing w') in
-    let done = subst before (sym c.in-Writing.is) (moved (plain call) w w' result c.perform-on.ensures.does) in
+    let done = subst before (sym c.in-Writing.is) (moved (plain call) w w' result c.perform_on.ensures.does) in
     record {
-      performs = performed call c.args.self.now (said c.or.result) (Writing w') c.in-default.not-Flat c.in-default.not-Writer c.in-default.not-Blob (subst answered (sym c.or.ensures) done);
-      sane = c.perform-on.ensures.consistent;
+      performs = performed call c.args.self.now (said c.or.result) (Writing w') c.in_default.not-Flat c.in_default.not-Writer c.in_default.not-Blob (subst answered (sym c.or.ensures) done);
+      sane = c.perform_on.ensures.consistent;
     }

@@ -7,12 +7,12 @@ use Rattle.writer.specs.View.{parts}
 use Rattle.writer.proofs.Ready.{flushes_stays, ready_again}
 use Rattle.writer.proofs.write.Write.lay_run.Goals as goal
 
-pub place-run-requires : goal.place-run-requires
-place-run-requires g c =
+pub place_run-requires : goal.place_run-requires
+place_run-requires g c =
     let w = c.args.self.now in
     let kept = store (g.B.Blob.disk w.blob) w.sync_state in
     let s = boxes kept c.merge.new.self in
     let ready = subst (λ t. Ready (boxes kept t)) (sym c.if-merge.ensures.1) c.requires.0 in
-    let stays = flushes_stays Plain s (Ok tt) (parts g.B.Blob.disk c.flush.new.self) ready c.in-ok-flush.ensures.flushes in
+    let stays = flushes_stays Plain s (Ok tt) (parts g.B.Blob.disk c.flush.new.self) ready c.in_ok-flush.ensures.flushes in
     let limit = stays.limit in
     (ready_again s _ ready stays, omega (arith, c.requires.1))

@@ -11,11 +11,11 @@ returns g c =
     let disk = g.B.Blob.disk in
     let s = view disk c.args.self.now in
     let t = view disk c.conclude.new.self in
-    let o = c.resize-boxes-outcome.result in
+    let o = c.resize_boxes-outcome.result in
     let running = c.if-self.false in
     let same = c.conclude.ensures.parts in
-    let did = subst (ResizesBoxes c.args.len s.boxes o) (sym same) c.resize-boxes-outcome.ensures.resizes in
-    let ends = subst (λ b. Concludes o b c.conclude.result t.closed) (c.resize-boxes-outcome.ensures.running ∙ running) c.conclude.ensures.answer in
+    let did = subst (ResizesBoxes c.args.len s.boxes o) (sym same) c.resize_boxes-outcome.ensures.resizes in
+    let ends = subst (λ b. Concludes o b c.conclude.result t.closed) (c.resize_boxes-outcome.ensures.running ∙ running) c.conclude.ensures.answer in
     let given = c.limit.ensures in
     let room : c.args.len ≤ limit s = omega arith in
     record {

@@ -14,12 +14,12 @@ returns g c =
     let place = c.args.place in
     let s = view disk c.args.self.now in
     let t = view disk c.conclude.new.self in
-    let o = c.lay-pieces-outcome.result in
+    let o = c.lay_pieces-outcome.result in
     let running = c.if-self.false in
-    let admitted = c.in-ok-admit.ensures in
+    let admitted = c.in_ok-admit.ensures in
     let same = c.conclude.ensures.parts in
-    let laid = subst (LaysPieces area place ps s.boxes o) (sym same) c.lay-pieces-outcome.ensures.lays in
-    let ends = subst (λ b. Concludes o b c.conclude.result t.closed) (c.lay-pieces-outcome.ensures.running ∙ running) c.conclude.ensures.answer in
+    let laid = subst (LaysPieces area place ps s.boxes o) (sym same) c.lay_pieces-outcome.ensures.lays in
+    let ends = subst (λ b. Concludes o b c.conclude.result t.closed) (c.lay_pieces-outcome.ensures.running ∙ running) c.conclude.ensures.answer in
     record {
       step = concluded s t o c.conclude.result running ends (λ r. WriteAt s place area ps r t) (Admits s place (length area) ps (Ok tt)) (λ p. LaysPieces area place ps s.boxes p t.boxes) admitted laid (λ w. w) (λ f w. w);
       consistent = stays_consistent s t o c.conclude.result running ends c.requires (pieces_stay area place ps s.boxes o t.boxes (ready s c.requires running) admitted.sound.each admitted.room laid);

@@ -18,7 +18,7 @@ returns c =
     ap (λ x. whole x s.limit n s.durable_len Idle)
     (with_items_is s.area c.clear.new.area (omega arith)
     ∙ c.clear.ensures
-    ∙ ap (λ x. laid x s.len (replicate (n - s.len) 0)) c.deref-mut.ensures.value) in
+    ∙ ap (λ x. laid x s.len (replicate (n - s.len) 0)) c.deref_mut.ensures.value) in
     record {
       means = subst (λ g. Resizes (disk_of (shape s)) n (Ok tt) (disk_of g)) (sym after) (omega arith, resized_changed (shape s) (valid s) n (omega arith));
       exact = after;

@@ -12,7 +12,7 @@ returns c =
     let p = c.args.place in
     let bs = c.args.bytes.now in
     let filled : 0 < length bs = search rules in
-    let end = c.in-ok-end.ensures in
+    let end = c.in_ok-end.ensures in
     record {
       means =
           subst (λ g. Writes (disk_of (shape s)) p bs (Ok tt) (disk_of g)) (sym c.lay.ensures)
