@@ -44,7 +44,7 @@ impl SyncState {
 
     // Waits for a started sync, before the blob is changed.
     pub(crate) fn wait_for_pending<B: Blob>(&mut self, blob: &mut B) -> Result<(), Fault>
-        ensures { Waits (store (disk blob.old) self.old) result (store (disk blob.new) self.new) }
+        ensures { Waits (store (B.disk blob.old) self.old) result (store (B.disk blob.new) self.new) }
     {
         let SyncState::Pending = self else {
             return Ok(());
@@ -63,8 +63,8 @@ impl SyncState {
         options: WriteOptions,
         step: Step,
     ) -> Result<(), Fault>
-        requires { place + length bytes.now ≤ (disk blob.old).limit }
-        ensures { StoreWrites options step place bytes.now (store (disk blob.old) self.old) result (store (disk blob.new) self.new) }
+        requires { place + length bytes.now ≤ (B.disk blob.old).limit }
+        ensures { StoreWrites options step place bytes.now (store (B.disk blob.old) self.old) result (store (B.disk blob.new) self.new) }
     {
         self.wait_for_pending(blob)?;
         match (&*self, options) {
@@ -90,8 +90,8 @@ impl SyncState {
     }
 
     pub(crate) fn resize<B: Blob>(&mut self, blob: &mut B, len: u64) -> Result<(), Fault>
-        requires { len ≤ (disk blob.old).limit }
-        ensures { StoreResizes len (store (disk blob.old) self.old) result (store (disk blob.new) self.new) }
+        requires { len ≤ (B.disk blob.old).limit }
+        ensures { StoreResizes len (store (B.disk blob.old) self.old) result (store (B.disk blob.new) self.new) }
     {
         self.wait_for_pending(blob)?;
         located(blob.resize(len), Step::Resize, len)?;
@@ -100,7 +100,7 @@ impl SyncState {
     }
 
     pub(crate) fn sync<B: Blob>(&mut self, blob: &mut B) -> Result<(), Fault>
-        ensures { StoreSyncs (store (disk blob.old) self.old) result (store (disk blob.new) self.new) }
+        ensures { StoreSyncs (store (B.disk blob.old) self.old) result (store (B.disk blob.new) self.new) }
     {
         self.wait_for_pending(blob)?;
         if let SyncState::Clean = self {

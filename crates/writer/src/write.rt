@@ -38,8 +38,8 @@ impl<B: Blob> Write<B> {
     // A writer at the end of the blob's content. A capacity that the check refuses becomes the nearest one
     // that it takes.
     pub fn new(blob: B, capacity: usize) -> Write<B>
-        ensures made { view disk result ≡ made (disk blob) capacity }
-        ensures consistent { Consistent (view disk result) }
+        ensures made { view B.disk result ≡ made (B.disk blob) capacity }
+        ensures consistent { Consistent (view B.disk result) }
     {
         // No content exceeds the limit, so this is the content's length.
         let offset = blob.len().min(blob.limit());
@@ -54,8 +54,8 @@ impl<B: Blob> Write<B> {
 
     // The length of the capture, buffered bytes included; 0 once the writer is closed.
     pub fn size(&self) -> u64
-        requires { Consistent (view disk self.now) }
-        ensures { result ≡ size (view disk self.now) }
+        requires { Consistent (view B.disk self.now) }
+        ensures { result ≡ size (view B.disk self.now) }
     {
         if self.closed {
             return 0;
@@ -65,16 +65,16 @@ impl<B: Blob> Write<B> {
 
     // Whether bytes are buffered or changes of the blob need a sync; no once the writer is closed.
     pub fn needs_sync(&self) -> bool
-        requires { Consistent (view disk self.now) }
-        ensures { result ≡ needs_sync (view disk self.now) }
+        requires { Consistent (view B.disk self.now) }
+        ensures { result ≡ needs_sync (view B.disk self.now) }
     {
         !self.closed && (!self.buffer.is_empty() || !self.sync_state.is_clean())
     }
 
     // Writes the range that was drained from the tip to the blob.
     fn write_drained(&mut self, offset: u64, len: usize, options: WriteOptions) -> Result<(), Fault>
-        requires { (len ≤ 4096) × (offset + len ≤ (disk self.old.blob).limit) }
-        ensures writes { StoreWrites options Flush offset (take len self.old.buffer.bytes) (parts disk self.old).store result (parts disk self.new).store }
+        requires { (len ≤ 4096) × (offset + len ≤ (B.disk self.old.blob).limit) }
+        ensures writes { StoreWrites options Flush offset (take len self.old.buffer.bytes) (parts B.disk self.old).store result (parts B.disk self.new).store }
         ensures tip { self.new.buffer ≡ self.old.buffer }
         ensures running { self.new.closed ≡ self.old.closed }
     {
@@ -89,8 +89,8 @@ impl<B: Blob> Write<B> {
 
     // Empties the tip into the blob.
     fn flush(&mut self) -> Result<(), Fault>
-        requires { Ready (parts disk self.old) }
-        ensures flushes { Flushes Plain (parts disk self.old) result (parts disk self.new) }
+        requires { Ready (parts B.disk self.old) }
+        ensures flushes { Flushes Plain (parts B.disk self.old) result (parts B.disk self.new) }
         ensures running { self.new.closed ≡ self.old.closed }
     {
         if let Some((offset, len)) = self.buffer.take() {
@@ -101,8 +101,8 @@ impl<B: Blob> Write<B> {
 
     // Writes a run past the tip.
     fn write_directly(&mut self, place: u64, run: &[u8]) -> Result<(), Fault>
-        requires { (place + length run.now ≤ (disk self.old.blob).limit) × ((disk self.old.blob).limit ≤ 2 ^ 62) × Beyond self.old.buffer place (length run.now) }
-        ensures writes { WritesRun place run.now (parts disk self.old) result (parts disk self.new) }
+        requires { (place + length run.now ≤ (B.disk self.old.blob).limit) × ((B.disk self.old.blob).limit ≤ 2 ^ 62) × Beyond self.old.buffer place (length run.now) }
+        ensures writes { WritesRun place run.now (parts B.disk self.old) result (parts B.disk self.new) }
         ensures running { self.new.closed ≡ self.old.closed }
     {
         self.sync_state.write_at(
@@ -118,8 +118,8 @@ impl<B: Blob> Write<B> {
 
     // Merges a run into the tip, or writes it directly where it does not merge.
     fn place_run(&mut self, place: u64, run: &[u8]) -> Result<(), Fault>
-        requires { Ready (parts disk self.old) × (place + length run.now ≤ (disk self.old.blob).limit) }
-        ensures places { PlacesRun place run.now (parts disk self.old) result (parts disk self.new) }
+        requires { Ready (parts B.disk self.old) × (place + length run.now ≤ (B.disk self.old.blob).limit) }
+        ensures places { PlacesRun place run.now (parts B.disk self.old) result (parts B.disk self.new) }
         ensures running { self.new.closed ≡ self.old.closed }
     {
         if self.buffer.merge(place, run) {
@@ -130,8 +130,8 @@ impl<B: Blob> Write<B> {
 
     // Lays a run into the capture.
     fn lay_run(&mut self, place: u64, run: &[u8]) -> Result<(), Fault>
-        requires { Ready (parts disk self.old) × (place + length run.now ≤ (disk self.old.blob).limit) }
-        ensures lays { LaysRun place run.now (parts disk self.old) result (parts disk self.new) }
+        requires { Ready (parts B.disk self.old) × (place + length run.now ≤ (B.disk self.old.blob).limit) }
+        ensures lays { LaysRun place run.now (parts B.disk self.old) result (parts B.disk self.new) }
         ensures running { self.new.closed ≡ self.old.closed }
     {
         if self.buffer.merge(place, run) {
@@ -146,8 +146,8 @@ impl<B: Blob> Write<B> {
 
     // Lays the pieces of a sound list end to end.
     fn lay_pieces(&mut self, place: u64, list: &PieceList) -> Result<(), Fault>
-        requires { Ready (parts disk self.old) × Writable (view disk self.old) (length list.now.area.now) place list.now.pieces.now }
-        ensures lays { LaysPieces list.now.area.now place list.now.pieces.now (parts disk self.old) result (parts disk self.new) }
+        requires { Ready (parts B.disk self.old) × Writable (view B.disk self.old) (length list.now.area.now) place list.now.pieces.now }
+        ensures lays { LaysPieces list.now.area.now place list.now.pieces.now (parts B.disk self.old) result (parts B.disk self.new) }
         ensures running { self.new.closed ≡ self.old.closed }
     {
         let mut at = place;
@@ -163,7 +163,7 @@ impl<B: Blob> Write<B> {
     // How a call ends that was neither refused nor made on a closed writer: a fault closes the writer.
     fn conclude(&mut self, outcome: Result<(), Fault>) -> Result<(), Error>
         ensures answer { Concludes outcome self.old.closed result self.new.closed }
-        ensures parts { parts disk self.new ≡ parts disk self.old }
+        ensures parts { parts B.disk self.new ≡ parts B.disk self.old }
     {
         match outcome {
             Ok(()) => Ok(()),
@@ -176,7 +176,7 @@ impl<B: Blob> Write<B> {
 
     // Whether a write of the list at `place` is refused.
     fn admit(&self, place: u64, list: &PieceList) -> Result<(), Error>
-        ensures { Admits (view disk self.now) place (length list.now.area.now) list.now.pieces.now result }
+        ensures { Admits (view B.disk self.now) place (length list.now.area.now) list.now.pieces.now result }
     {
         let Some(end) = place.checked_add(list.check()? as u64) else {
             return Err(Error::OffsetOverflow);
@@ -190,9 +190,9 @@ impl<B: Blob> Write<B> {
     // Writes the pieces of the list end to end from `place` on. They go into the tip where they merge; else
     // the tip is flushed, or they are written to the blob directly.
     pub fn write_at(&mut self, place: u64, list: &PieceList) -> Result<(), Error>
-        requires { Consistent (view disk self.old) }
-        ensures step { WriteAt (view disk self.old) place list.now.area.now list.now.pieces.now result (view disk self.new) }
-        ensures consistent { Consistent (view disk self.new) }
+        requires { Consistent (view B.disk self.old) }
+        ensures step { WriteAt (view B.disk self.old) place list.now.area.now list.now.pieces.now result (view B.disk self.new) }
+        ensures consistent { Consistent (view B.disk self.new) }
     {
         if self.closed {
             return Err(Error::Closed);
@@ -205,9 +205,9 @@ impl<B: Blob> Write<B> {
     // Merges the run into the tip if it fits there, and answers whether it did. It asks nothing of the blob
     // but its limit.
     pub fn try_write_at(&mut self, place: u64, run: &[u8]) -> bool
-        requires { Consistent (view disk self.old) }
-        ensures step { TryWriteAt (view disk self.old) place run.now result (view disk self.new) }
-        ensures consistent { Consistent (view disk self.new) }
+        requires { Consistent (view B.disk self.old) }
+        ensures step { TryWriteAt (view B.disk self.old) place run.now result (view B.disk self.new) }
+        ensures consistent { Consistent (view B.disk self.new) }
     {
         if self.closed {
             return false;
@@ -226,8 +226,8 @@ impl<B: Blob> Write<B> {
 
     // Fits the tip and then the blob to a capture of `len` bytes.
     fn resize_boxes(&mut self, len: u64) -> Result<(), Fault>
-        requires { Ready (parts disk self.old) × (len ≤ (disk self.old.blob).limit) }
-        ensures resizes { ResizesBoxes len (parts disk self.old) result (parts disk self.new) }
+        requires { Ready (parts B.disk self.old) × (len ≤ (B.disk self.old.blob).limit) }
+        ensures resizes { ResizesBoxes len (parts B.disk self.old) result (parts B.disk self.new) }
         ensures running { self.new.closed ≡ self.old.closed }
     {
         if let Some((offset, drained)) = self.buffer.resize(len) {
@@ -238,9 +238,9 @@ impl<B: Blob> Write<B> {
 
     // Cuts the capture to `len` bytes, or adds zeros up to there.
     pub fn resize(&mut self, len: u64) -> Result<(), Error>
-        requires { Consistent (view disk self.old) }
-        ensures step { ResizeTo (view disk self.old) len result (view disk self.new) }
-        ensures consistent { Consistent (view disk self.new) }
+        requires { Consistent (view B.disk self.old) }
+        ensures step { ResizeTo (view B.disk self.old) len result (view B.disk self.new) }
+        ensures consistent { Consistent (view B.disk self.new) }
     {
         if self.closed {
             return Err(Error::Closed);
@@ -254,8 +254,8 @@ impl<B: Blob> Write<B> {
 
     // Writes what is buffered and makes the whole capture durable.
     fn sync_boxes(&mut self) -> Result<(), Fault>
-        requires { Ready (parts disk self.old) }
-        ensures syncs { SyncsBoxes (parts disk self.old) result (parts disk self.new) }
+        requires { Ready (parts B.disk self.old) }
+        ensures syncs { SyncsBoxes (parts B.disk self.old) result (parts B.disk self.new) }
         ensures running { self.new.closed ≡ self.old.closed }
     {
         match self.buffer.take() {
@@ -266,9 +266,9 @@ impl<B: Blob> Write<B> {
 
     // Makes the whole capture durable.
     pub fn sync(&mut self) -> Result<(), Error>
-        requires { Consistent (view disk self.old) }
-        ensures step { SyncAll (view disk self.old) result (view disk self.new) }
-        ensures consistent { Consistent (view disk self.new) }
+        requires { Consistent (view B.disk self.old) }
+        ensures step { SyncAll (view B.disk self.old) result (view B.disk self.new) }
+        ensures consistent { Consistent (view B.disk self.new) }
     {
         if self.closed {
             return Err(Error::Closed);
@@ -279,9 +279,9 @@ impl<B: Blob> Write<B> {
 
     // Fills `out` from the blob, by one read.
     fn read_blob(&mut self, place: u64, out: &mut [u8]) -> Result<(), Fault>
-        requires { 0 < length out.old → place + length out.old ≤ length (disk self.old.blob).content }
-        ensures reads { ReadsBelow (disk self.old.blob) place out.old result (disk self.new.blob) out.new }
-        ensures rest { view disk self.new ≡ state (disk self.new.blob) self.old.sync_state self.old.buffer self.old.closed }
+        requires { 0 < length out.old → place + length out.old ≤ length (B.disk self.old.blob).content }
+        ensures reads { ReadsBelow (B.disk self.old.blob) place out.old result (B.disk self.new.blob) out.new }
+        ensures rest { view B.disk self.new ≡ state (B.disk self.new.blob) self.old.sync_state self.old.buffer self.old.closed }
     {
         if out.is_empty() {
             return Ok(());
@@ -291,8 +291,8 @@ impl<B: Blob> Write<B> {
 
     // Fills `out` from the blob below the tip's offset, and from the tip above it.
     fn gather(&mut self, place: u64, out: &mut [u8]) -> Result<(), Error>
-        requires { Ready (parts disk self.old) × (place + length out.old ≤ self.old.buffer.offset + self.old.buffer.len) }
-        ensures { Gathers (view disk self.old) place out.old result (view disk self.new) out.new }
+        requires { Ready (parts B.disk self.old) × (place + length out.old ≤ self.old.buffer.offset + self.old.buffer.len) }
+        ensures { Gathers (view B.disk self.old) place out.old result (view B.disk self.new) out.new }
     {
         let below = self.buffer.below(place, out.len());
         self.read_blob(place, &mut out[0..below])?;
@@ -304,8 +304,8 @@ impl<B: Blob> Write<B> {
 
     // Whether a read of `n` bytes at `place` is refused.
     pub fn check_read(&self, place: u64, n: u64) -> Result<(), Error>
-        requires { Consistent (view disk self.now) }
-        ensures { ChecksRead (view disk self.now) place n result }
+        requires { Consistent (view B.disk self.now) }
+        ensures { ChecksRead (view B.disk self.now) place n result }
     {
         if self.closed {
             return Err(Error::Closed);
@@ -321,9 +321,9 @@ impl<B: Blob> Write<B> {
 
     // Fills `out` with the bytes of the capture from `place` on.
     pub fn read_at(&mut self, place: u64, out: &mut [u8]) -> Result<(), Error>
-        requires { Consistent (view disk self.old) }
-        ensures step { ReadAt (view disk self.old) place out.old result (view disk self.new) out.new }
-        ensures consistent { Consistent (view disk self.new) }
+        requires { Consistent (view B.disk self.old) }
+        ensures step { ReadAt (view B.disk self.old) place out.old result (view B.disk self.new) out.new }
+        ensures consistent { Consistent (view B.disk self.new) }
     {
         self.check_read(place, out.len() as u64)?;
         self.gather(place, out)
@@ -338,7 +338,7 @@ impl<B: Blob> Write<B> {
 
     // The buffered bytes.
     pub fn tip(&self) -> &[u8]
-        requires { Consistent (view disk self.now) }
+        requires { Consistent (view B.disk self.now) }
         ensures { result.now ≡ buffered self.now.buffer }
     {
         self.buffer.buffered()

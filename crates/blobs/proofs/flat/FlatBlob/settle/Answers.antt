@@ -14,7 +14,7 @@ invariant_of-self c =
     let items = c.copy_within.ensures.items ∙ paste-laid s.area.items s.limit s.area.items (s.len - 0) (omega arith) (omega arith) ∙ ap (λ n. laid s.area.items s.limit (take n s.area.items)) same in
     let front = ap (take s.len) items ∙ copy_content s.area.items s.len s.limit s.content_fits (omega arith) in
     let back = ap (λ x. part x s.limit s.len) items ∙ copy_durable s.area.items s.len s.limit s.content_fits (omega arith) in
-    (omega (arith, s.halves), (s.small, (s.content_fits, (s.content_fits, (c.requires, ((λ _. back ∙ sym front), tt))))))
+    record { halves = omega (arith, s.halves); small = s.small; content_fits = s.content_fits; durable_fits = s.content_fits; unbroken = c.requires; done = λ _. back ∙ sym front }
 
 pub returns : goal.returns
 returns c =
