@@ -42,10 +42,10 @@ fn put(writer: &mut Write<FlatBlob>, place: u64, bytes: &[u8]) -> Result<(), Err
 fn a_late_packet_is_written_across_the_tip(rt: HostRuntime) -> Result<(), Fail> {
     let mut w = writer(rt.alloc())?;
     assert!(rt; put(&mut w, 0, b"abcd").is_ok());
-    assert_eq!(rt; w.tip(), b"abcd");
+    assert_eq!(rt; w.tip(), b"abcd".as_slice());
     assert!(rt; put(&mut w, 4, b"ef").is_ok());
     assert!(rt; put(&mut w, 3, b"XYZ").is_ok());
-    assert_eq!(rt; w.blob().content(), b"abcXYZ");
+    assert_eq!(rt; w.blob().content(), b"abcXYZ".as_slice());
     assert_eq!(rt; w.tip_offset(), 6);
     Ok(())
 }
@@ -59,9 +59,9 @@ fn a_cut_lets_no_old_byte_back(rt: HostRuntime) -> Result<(), Fail> {
     assert!(rt; put(&mut w, 7, b"Z").is_ok());
     let mut out = [9u8; 8];
     assert!(rt; w.read_at(0, &mut out).is_ok());
-    assert_eq!(rt; out.as_slice(), b"abcde\0\0Z");
+    assert_eq!(rt; out.as_slice(), b"abcde\0\0Z".as_slice());
     assert!(rt; w.sync().is_ok());
-    assert_eq!(rt; w.blob().durable(), b"abcde\0\0Z");
+    assert_eq!(rt; w.blob().durable(), b"abcde\0\0Z".as_slice());
     Ok(())
 }
 

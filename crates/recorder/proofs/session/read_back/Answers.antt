@@ -34,7 +34,7 @@ returns-in-Ok c =
     let out = c.in_ok-out.out in
     let after = c.read_at.new.out in
     let ok = out.ok.0 in
-    let given = c.deref_mut.ensures.value ∙ c.in_ok-out.ensures.items-if-clones-equal (λ y h. h) in
+    let given = c.deref_mut.ensures.value ∙ c.in_ok-out.ensures.items_if_clones_equal (λ y h. h) in
     let read : List ℕ → Type 0 = λ xs. ReadAt (view ghosts.disk c.args.writer.now) c.args.place xs (Ok tt) (view ghosts.disk c.read_at.new.self) after in
     record {
       reads = inl (after, ap bytes (with_items_is out after (omega arith)), subst read given c.in-Ok.ensures.step);
