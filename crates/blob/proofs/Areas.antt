@@ -1,7 +1,6 @@
 -- An array that an area of bytes begins with, and what lies behind it, after a write, a resize and a copy.
-use Rattle.std.proofs.Common.{◌≡◌, ℕ, ◌+◌, ◌-◌, ◌<◌, ◌≤◌, min, max, ◌⊎◌, List, [], ◌∷◌, ◌++◌, length, get_or, take, drop, replicate, sym, refl, ap, ◌∙◌, inl, inr, ⊎_elim, arith}
-use lib.Seq.{paste}
-use Rattle.std.proofs.lemmas.List.{length-append, length-take, length-drop, length-replicate, get_or_past, get_or-take, get_or-drop, take_all}
+use Rattle.std.proofs.Common.{◌≡◌, ℕ, ◌+◌, ◌-◌, ◌<◌, ◌≤◌, max, List, length, take, drop, replicate, sym, ap, ◌∙◌, ⊎_elim, arith}
+use Rattle.std.proofs.lemmas.List.{length-take, length-drop, length-replicate, get_or_past, get_or-take, get_or-drop}
 use Rattle.std.proofs.lemmas.Bool.{cases_lt}
 use Rattle.blob.specs.Bytes.{at, part, laid, resized}
 use Rattle.blob.proofs.Bytes.{length-laid, length-laid_within, at-laid_in, at-laid_below, at-laid_above, at-zeros, length-resized, at-resized, same_bytes}

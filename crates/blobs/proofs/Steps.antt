@@ -1,5 +1,5 @@
 -- What the flat blob's calls make of its record is what a blob's calls mean.
-use Rattle.std.proofs.Common.{◌≡◌, ℕ, ◌+◌, ◌-◌, ◌<◌, ◌≤◌, max, List, length, take, drop, replicate, sym, refl, ap, ◌∙◌, subst, ap₂, arith}
+use Rattle.std.proofs.Common.{◌≡◌, ℕ, ◌+◌, ◌<◌, ◌≤◌, max, List, length, take, sym, refl, ap, subst, ap₂, arith}
 use Rattle.blob.specs.Bytes.{laid, resized}
 use Rattle.blob.specs.Meaning.{Changed, Synced}
 use Rattle.blob.specs.declared.StartedSync.{StartedSync}

@@ -1,7 +1,7 @@
 -- That the words of a line are what the relation `Words` says. Assumes nothing.
 use Rattle.std.proofs.Common.{◌≡◌, ℕ, true, not, List, [], ◌∷◌, ◌++◌, sym, refl, ap, ◌∙◌, ⊎_elim, append_assoc, append-nil, arith}
 use Rattle.std.proofs.lemmas.Bool.{cases_Bool, and_from}
-use Rattle.call_list.specs.Line.{every, blank, split, words_of, at_gap, First, Words}
+use Rattle.call_list.specs.Line.{every, blank, split, words_of, at_gap, Words}
 
 -- a blank before a line changes none of its words
 wider : (b : ℕ) (bs : List ℕ) (ws : List (List ℕ)) → blank b ≡ true → Words bs ws → Words (b ∷ bs) ws

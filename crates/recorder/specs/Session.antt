@@ -1,10 +1,9 @@
 -- What each call of a list answers and leaves, over a session whose writer, if it has one, is as its making
 -- and its calls leave it.
-use Rattle.std.specs.Prelude.{◌≡◌, ℕ, ◌*◌, min, Bool, ◌≢◌, ◌⊎◌, List, map, length, take, replicate, Ok, Err, vec_items, Option, Result}
+use Rattle.std.specs.Prelude.{◌≡◌, ℕ, ◌*◌, min, Bool, ◌≢◌, ◌⊎◌, List, map, length, take, replicate, Ok, Err, vec_items, Result}
 use Rattle.std.specs.Option.{unwrap_or}
 use Rattle.std.specs.Result.{result_map_both}
 use Rattle.blob.specs.Bytes.{laid}
-use Rattle.blob.specs.Meaning.{Disk}
 use Rattle.blobs.specs.contracts.flat.calls.FlatBlobBlob.TheImpl.{ghosts}
 use Rattle.blobs.specs.declared.flat.FlatBlob.{FlatBlob}
 use Rattle.blobs.specs.declared.flat.StartError.{StartError}

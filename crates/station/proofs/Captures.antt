@@ -1,5 +1,5 @@
 -- What a run, or a resize, makes of the content and the tip where the blob accepts: one value for each.
-use Rattle.std.proofs.Common.{◌≡◌, ℕ, ◌+◌, ◌-◌, ◌<◌, ◌≤◌, max, Bool, true, false, cond, ◌&&◌, ltb, leb, ◌⊎◌, List, [], ◌∷◌, ◌++◌, length, take, drop, None, Ok, sym, refl, ap, ◌∙◌, subst, ap₂, inl, inr, ⊎_elim, arith, le-ltb, lt-ltb, le-leb}
+use Rattle.std.proofs.Common.{◌≡◌, ℕ, ◌+◌, ◌-◌, ◌<◌, ◌≤◌, max, Bool, true, false, cond, ◌&&◌, ltb, leb, List, [], length, take, None, Ok, sym, refl, ap, ◌∙◌, ap₂, inl, inr, ⊎_elim, arith, le-ltb, lt-ltb, le-leb}
 use borrow.Author.Tests.{lt-leb}
 use Rattle.std.proofs.lemmas.List.{take_at, take-take, nil_from_length}
 use Rattle.std.proofs.lemmas.Bool.{cases_lt}
@@ -8,7 +8,7 @@ use Rattle.blob.proofs.Bytes.{laid_nothing}
 use Rattle.buffer.specs.declared.error.Step.TheVariants.{Flush, DirectWrite}
 use Rattle.buffer.specs.declared.tip.Buffer.{Buffer}
 use Rattle.writer.specs.declared.sync_state.WriteOptions.TheVariants as options
-use Rattle.buffer.specs.Tip.{Sized, Within, Beyond, buffered, holding, Resized}
+use Rattle.buffer.specs.Tip.{Sized, Within, Beyond, buffered, Resized}
 use Rattle.writer.specs.Boxes.{Boxes, Flushes, MergesRun, WritesRun, PlacesRun, LaysRun, ResizesBoxes}
 use Rattle.writer.proofs.Keeps.{store_writes_content, store_resizes_content}
 use Rattle.writer.proofs.Ready.{buffered_length}

@@ -1,5 +1,5 @@
 -- On a sound blob no part of a call faults, and the blob stays sound.
-use Rattle.std.proofs.Common.{◌≡◌, ℕ, true, false, ◌⊎◌, List, Ok, Err, sym, refl, ap, ◌∙◌, subst, inl, inr, ⊎_elim}
+use Rattle.std.proofs.Common.{◌≡◌, ℕ, true, false, List, Ok, Err, sym, refl, ap, ◌∙◌, subst, inl, inr, ⊎_elim}
 use borrow.Author.Tests.{clash}
 use Rattle.blob.specs.declared.StartedSync.{StartedSync}
 use Rattle.blob.specs.declared.StartedSync.TheVariants.{Idle, Done}

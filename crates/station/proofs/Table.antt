@@ -1,21 +1,20 @@
 -- A list of calls on a sound blob, worked out, and the worked cases of a station by one computed test.
-use Rattle.std.proofs.Common.{◌≡◌, ℕ, ◌+◌, ◌-◌, ◌^◌, ◌<◌, ◌≤◌, Bool, true, false, cond, ◌&&◌, eqb, ltb, leb, ◌⊎◌, List, [], ◌∷◌, ◌++◌, length, get_or, take, drop, replicate, Ok, Err, Result, sym, refl, ap, ◌∙◌, subst, ap₂, inl, inr, ⊎_elim, arith, ltb-true, eqb-true, le-leb, leb-true}
+use Rattle.std.proofs.Common.{◌≡◌, ℕ, ◌+◌, ◌^◌, ◌<◌, ◌≤◌, Bool, true, false, cond, ◌&&◌, eqb, ltb, leb, List, [], ◌∷◌, length, get_or, replicate, Ok, Err, Result, sym, refl, ap, ◌∙◌, subst, ap₂, inl, inr, ⊎_elim, arith, ltb-true, eqb-true, le-leb, leb-true}
 use borrow.Author.Tests.{clash, lt-leb}
-use Rattle.std.proofs.lemmas.List.{take_all, length-replicate}
-use Rattle.std.proofs.lemmas.Bool.{cases_lt}
-use Rattle.blob.specs.Meaning.{Disk, broken}
+use Rattle.std.proofs.lemmas.List.{take_all}
+use Rattle.blob.specs.Meaning.{broken}
 use Rattle.blob.specs.declared.StartedSync.{StartedSync}
 use Rattle.buffer.specs.declared.error.Error.{Error}
 use Rattle.buffer.specs.declared.error.Error.TheVariants.{BadCapacity, TooManyPieces, BadPiece, OffsetOverflow, NoRoom, BlobInsufficientLength, Closed, DeviceFault}
 use Rattle.buffer.specs.declared.pieces.Piece.{Piece}
-use Rattle.buffer.specs.Pieces.{inside, run, carries, total, all_inside}
+use Rattle.buffer.specs.Pieces.{inside, run}
 use Rattle.writer.specs.Stores.{Outcome}
-use Rattle.writer.specs.Boxes.{Boxes, LaysRun, LaysPieces}
+use Rattle.writer.specs.Boxes.{LaysRun, LaysPieces}
 use Rattle.writer.specs.Steps.{State, limit, size, Consistent, made, WriteAt, ResizeTo, ReadAt}
 use Rattle.station.specs.Cases.{Call, write, resize, read, Takes, answer, Run, Row, Ends, Each, table, empty, StationCases}
 use Rattle.buffer.proofs.Lists.{and_true}
 use Rattle.writer.proofs.Makings.{made_consistent}
-use Rattle.writer.proofs.Ready.{Stays, run_stays, resizes_stays, run_length, buffered_length}
+use Rattle.writer.proofs.Ready.{Stays, run_stays, resizes_stays, buffered_length}
 use Rattle.writer.proofs.Concluding.{ready}
 use Rattle.station.proofs.Sure.{Fine, run_certain, resize_certain}
 use Rattle.station.proofs.Captures.{Model, made_of, model, lays, cut, run_model, resize_model}

@@ -1,5 +1,5 @@
 -- How a call that was made ends.
-use Rattle.std.proofs.Common.{◌≡◌, ℕ, ◌+◌, ◌-◌, ◌<◌, ◌≤◌, Bool, true, false, List, length, Ok, Err, Result, sym, refl, ap, ◌∙◌, subst, ap₂, inl, inr, arith}
+use Rattle.std.proofs.Common.{◌≡◌, ℕ, ◌+◌, ◌-◌, ◌<◌, ◌≤◌, Bool, true, false, List, length, Ok, Err, Result, sym, ap, ◌∙◌, subst, ap₂, inr, arith}
 use borrow.Author.Tests.{clash}
 use Rattle.buffer.specs.declared.error.Error.{Error}
 use Rattle.buffer.specs.declared.error.Error.TheVariants.{DeviceFault}
@@ -8,7 +8,7 @@ use Rattle.blob.specs.Bytes.{laid}
 use Rattle.buffer.specs.declared.tip.Buffer.{Buffer}
 use Rattle.buffer.specs.Tip.{Merges, buffered, holding}
 use Rattle.writer.specs.Stores.{Outcome}
-use Rattle.writer.specs.Boxes.{Boxes, boxes}
+use Rattle.writer.specs.Boxes.{boxes}
 use Rattle.writer.specs.Steps.{State, limit, Fits, Ready, Consistent, Runs, Concludes, TryWriteAt}
 use Rattle.writer.proofs.Ready.{Stays, tried_fits}
 

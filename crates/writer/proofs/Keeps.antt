@@ -1,6 +1,6 @@
 -- What the writer's calls of the blob leave: the limit always, and the content that was asked for where the
 -- blob accepts.
-use Rattle.std.proofs.Common.{◌≡◌, ℕ, ◌+◌, ◌<◌, ◌≤◌, ◌⊎◌, List, length, Ok, Err, sym, refl, ap, ◌∙◌, inl, inr, ⊎_elim, arith}
+use Rattle.std.proofs.Common.{◌≡◌, ℕ, ◌<◌, List, length, Ok, Err, ap, ◌∙◌, inl, inr, ⊎_elim, arith}
 use Rattle.blob.specs.Bytes.{laid, resized}
 use Rattle.blob.specs.Meaning.{Disk, Answer, Writes, SyncWrites, Resizes, Syncs, Finishes}
 use Rattle.blob.specs.declared.BlobError.TheVariants.{NoRoom, BlobInsufficientLength, DeviceFault}

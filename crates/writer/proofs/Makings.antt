@@ -1,5 +1,5 @@
 -- A new writer is consistent.
-use Rattle.std.proofs.Common.{◌≡◌, ℕ, ◌≤◌, length, refl, arith}
+use Rattle.std.proofs.Common.{ℕ, arith}
 use Rattle.std.proofs.lemmas.List.{length-replicate}
 use Rattle.blob.specs.Meaning.{Disk, Limited}
 use Rattle.writer.specs.Steps.{Consistent, made}

@@ -1,18 +1,18 @@
 -- A writer's calls leave it consistent: the parts that they are made of keep it ready, and a fault leaves a
 -- tip of lawful size.
-use Rattle.std.proofs.Common.{◌≡◌, ℕ, ◌+◌, ◌-◌, ◌^◌, ◌<◌, ◌≤◌, max, true, ◌⊎◌, List, [], ◌∷◌, ◌++◌, length, take, drop, None, Ok, Err, sym, refl, ap, ◌∙◌, subst, inl, inr, ⊎_elim, arith}
+use Rattle.std.proofs.Common.{◌≡◌, ℕ, ◌+◌, ◌-◌, ◌^◌, ◌<◌, ◌≤◌, max, true, ◌⊎◌, List, [], ◌∷◌, length, drop, None, Ok, Err, sym, refl, ap, ◌∙◌, subst, inl, inr, arith}
 use Rattle.std.proofs.lemmas.List.{length-take, length-drop, length-append}
-use Rattle.blob.specs.Bytes.{laid, resized}
+use Rattle.blob.specs.Bytes.{laid}
 use Rattle.blob.proofs.Bytes.{length-laid, length-resized}
 use Rattle.buffer.specs.declared.error.Step.TheVariants.{Flush, DirectWrite}
 use Rattle.buffer.specs.declared.pieces.Piece.{Piece}
 use Rattle.buffer.specs.declared.tip.Buffer.{Buffer}
 use Rattle.writer.specs.declared.sync_state.WriteOptions.{WriteOptions}
 use Rattle.writer.specs.declared.sync_state.WriteOptions.TheVariants as options
-use Rattle.buffer.specs.Tip.{Sized, Within, Beyond, buffered, holding, drained, moved, Resized}
+use Rattle.buffer.specs.Tip.{Sized, Within, buffered, holding, drained, moved, Resized}
 use Rattle.writer.specs.Stores.{Outcome, Nothing, Then, StoreWrites, StoreResizes}
 use Rattle.buffer.specs.Pieces.{inside, run, carries, total, all_inside}
-use Rattle.writer.specs.Boxes.{Boxes, boxes, Flushed, Flushes, MergesRun, WritesRun, PlacesRun, FlushesFirst, LaysRun, LaysPieces, ResizesAbove, ResizesBoxes, SyncsEmpty, SyncsBoxes}
+use Rattle.writer.specs.Boxes.{Boxes, boxes, Flushed, Flushes, MergesRun, WritesRun, PlacesRun, LaysRun, LaysPieces, ResizesAbove, ResizesBoxes, SyncsEmpty, SyncsBoxes}
 use Rattle.writer.specs.Steps.{Fits, Ready}
 use Rattle.buffer.proofs.Lists.{and_true, inside_bounds, carries_first, carries_rest}
 use Rattle.writer.proofs.Keeps.{then_limits, store_writes_limits, store_writes_content, store_resizes_limits, store_resizes_content, store_syncs_limits, store_syncs_content}

@@ -1,11 +1,11 @@
 -- How a writer's calls of the blob make up its steps.
-use Rattle.std.proofs.Common.{◌≡◌, ℕ, List, IsErrAnd, Ok, Err, sym, refl, ap, ◌∙◌, subst, subst₂, inl, inr, arith}
+use Rattle.std.proofs.Common.{◌≡◌, ℕ, List, IsErrAnd, Ok, Err, sym, refl, ap, ◌∙◌, subst, subst₂, inr, arith}
 use Rattle.std.proofs.lemmas.Result.{err_from_is_err_and}
-use Rattle.blob.specs.Meaning.{Disk, Answer, Syncs, Finishes}
+use Rattle.blob.specs.Meaning.{Disk, Answer, Syncs}
 use Rattle.blob.specs.declared.BlobError.TheVariants.{DeviceFault}
 use Rattle.buffer.specs.declared.error.Fault.{Fault}
 use Rattle.buffer.specs.declared.error.Step.{Step}
-use Rattle.buffer.specs.declared.error.Step.TheVariants.{Sync, Wait}
+use Rattle.buffer.specs.declared.error.Step.TheVariants.{Sync}
 use Rattle.writer.specs.declared.sync_state.SyncState.{SyncState}
 use Rattle.writer.specs.declared.sync_state.SyncState.TheVariants.{Clean, Dirty, Pending}
 use Rattle.writer.specs.declared.sync_state.WriteOptions.{WriteOptions}

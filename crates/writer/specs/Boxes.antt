@@ -1,5 +1,5 @@
 -- How bytes pass from the tip to the blob: the parts that a writer's calls are made of.
-use Rattle.std.specs.Prelude.{◌≡◌, ℕ, ◌+◌, ◌-◌, ◌<◌, ◌≤◌, ◌⊎◌, List, [], ◌∷◌, ◌++◌, length, Some, None, Ok, Err}
+use Rattle.std.specs.Prelude.{◌≡◌, ℕ, ◌+◌, ◌-◌, ◌<◌, ◌≤◌, ◌⊎◌, List, [], ◌∷◌, ◌++◌, length, None, Ok, Err}
 use Rattle.blob.specs.Bytes.{laid, part}
 use Rattle.buffer.specs.declared.error.Step.TheVariants.{Flush, DirectWrite}
 use Rattle.buffer.specs.declared.pieces.Piece.{Piece}

@@ -2,7 +2,6 @@
 -- keeps track of what still needs a sync.
 use Rattle.std.specs.Prelude.{◌≡◌, ℕ, Bool, true, false, ◌⊎◌, List, Ok, Err, Result}
 use Rattle.blob.specs.Meaning.{Disk, Answer, Writes, SyncWrites, Resizes, Syncs, Finishes}
-use Rattle.blob.specs.declared.BlobError.{BlobError}
 use Rattle.blob.specs.declared.BlobError.TheVariants.{NoRoom, BlobInsufficientLength, DeviceFault}
 use Rattle.buffer.specs.declared.error.Fault.{Fault}
 use Rattle.buffer.specs.declared.error.Step.{Step}

@@ -1,7 +1,7 @@
 use Rattle.std.proofs.Common.{[], ◌∷◌, ◌++◌, Ok, vec_items, sym, ap, ◌∙◌, inl, inr, ⊎_elim}
 use Rattle.std.proofs.lemmas.Result.{err_from_is_err_and}
 use Rattle.call_list.specs.Values.{hex_of}
-use Rattle.call_list.proofs.Places.{one_more, stops, all_read, Laid, laid_more, laid_none, parts_are}
+use Rattle.call_list.proofs.Places.{one_more, stops, all_read, laid_more, laid_none, parts_are}
 use Rattle.call_list.proofs.args.pieces_from.Goals as goal
 
 pub returns-in_err-bytes : goal.returns-in_err-bytes

@@ -1,6 +1,6 @@
-use Rattle.std.proofs.Common.{ap, ◌∙◌, arith, rules, false-eqb}
+use Rattle.std.proofs.Common.{ap, ◌∙◌, arith, false-eqb}
 use Rattle.call_list.specs.Line.{contents}
-use Rattle.call_list.proofs.Splits.{added, added_none}
+use Rattle.call_list.proofs.Splits.{added}
 use Rattle.call_list.proofs.words.add_word.Goals as goal
 
 pub returns-in_ok-push : goal.returns-in_ok-push

@@ -1,4 +1,4 @@
-use Rattle.std.proofs.Common.{◌≡◌, ◌-◌, replicate, ap, ◌∙◌, ap₂, arith}
+use Rattle.std.proofs.Common.{◌-◌, replicate, ap, ◌∙◌, ap₂, arith}
 use Rattle.std.proofs.lemmas.List.{with_items_is}
 use Rattle.blob.specs.Bytes.{laid}
 use Rattle.blob.specs.declared.StartedSync.TheVariants.{Idle}

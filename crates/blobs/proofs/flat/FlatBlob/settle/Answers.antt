@@ -1,4 +1,4 @@
-use Rattle.std.proofs.Common.{◌≡◌, ◌-◌, length, take, sym, ap, ◌∙◌, arith}
+use Rattle.std.proofs.Common.{◌≡◌, ◌-◌, take, sym, ap, ◌∙◌, arith}
 use Rattle.blob.specs.Bytes.{laid, part}
 use Rattle.blob.proofs.Areas.{copy_content, copy_durable}
 use Rattle.blob.proofs.Parts.{paste-laid}

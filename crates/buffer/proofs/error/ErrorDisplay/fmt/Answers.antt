@@ -1,4 +1,4 @@
-use Rattle.std.proofs.Common.{◌≡◌, ℕ, List, ◌++◌, codes, decimal, sym, ap, ◌∙◌}
+use Rattle.std.proofs.Common.{◌≡◌, ℕ, ◌++◌, codes, decimal, sym, ap, ◌∙◌}
 use Rattle.buffer.specs.declared.error.Error.{Error}
 use Rattle.buffer.specs.declared.error.Error.TheVariants.{BadCapacity, TooManyPieces, BlobInsufficientLength}
 use Rattle.buffer.specs.Numbers.{number, name, text}

@@ -1,4 +1,4 @@
-use Rattle.std.proofs.Common.{◌≡◌, ◌+◌, ◌-◌, ◌<◌, ◌≤◌, length, sym, ap, ◌∙◌, arith, rules, true-eqb}
+use Rattle.std.proofs.Common.{◌≡◌, ◌+◌, ◌-◌, ◌<◌, length, ap, ◌∙◌, arith, rules, true-eqb}
 use Rattle.blob.specs.Bytes.{laid}
 use Rattle.blob.proofs.Parts.{put-laid}
 use Rattle.buffer.proofs.Tips.{with, merged_none, merged_some}

@@ -1,4 +1,4 @@
-use Rattle.std.proofs.Common.{◌≡◌, Ok, refl, ap, subst}
+use Rattle.std.proofs.Common.{Ok, refl, ap, subst}
 use Rattle.recorder.specs.declared.session.Session.{Session}
 use Rattle.recorder.specs.declared.session.Session.TheVariants.{Writing}
 use Rattle.recorder.specs.Session.{MakesWriter, told}

@@ -1,4 +1,4 @@
-use Rattle.std.proofs.Common.{Ok, sym, refl, subst, inr}
+use Rattle.std.proofs.Common.{Ok, sym, refl, subst}
 use Rattle.blob.specs.Meaning.{Syncs}
 use Rattle.writer.specs.Stores.{store, SyncsFrom}
 use Rattle.writer.proofs.Stores.{settled, syncs_dirty, told_ok}

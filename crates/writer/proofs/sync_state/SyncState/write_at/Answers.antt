@@ -1,4 +1,4 @@
-use Rattle.std.proofs.Common.{Ok, Err, sym, refl, subst, inl, inr}
+use Rattle.std.proofs.Common.{Ok, Err, refl, subst, inl, inr}
 use Rattle.blob.specs.Meaning.{Writes, SyncWrites, Syncs}
 use Rattle.writer.specs.declared.sync_state.SyncState.TheVariants.{Clean, Dirty}
 use Rattle.writer.specs.declared.sync_state.WriteOptions.TheVariants as options

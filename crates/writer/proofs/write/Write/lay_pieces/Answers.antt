@@ -1,4 +1,4 @@
-use Rattle.std.proofs.Common.{◌≡◌, ℕ, ◌+◌, length, Ok, Err, sym, refl, ap, ◌∙◌, subst, subst₂, arith}
+use Rattle.std.proofs.Common.{ℕ, ◌+◌, length, Ok, Err, sym, refl, ap, ◌∙◌, subst, subst₂, arith}
 use Rattle.buffer.specs.declared.pieces.Piece.{Piece}
 use Rattle.writer.specs.declared.write.Write.{Write}
 use Rattle.writer.specs.Boxes.{LaysPieces, LaysRun}

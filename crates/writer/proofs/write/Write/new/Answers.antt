@@ -1,7 +1,7 @@
 use Rattle.std.proofs.Common.{◌≡◌, false, length, sym, ap, ◌∙◌, subst, ap₂, arith}
 use Rattle.writer.specs.declared.sync_state.SyncState.TheVariants.{Dirty}
 use Rattle.buffer.specs.Tip.{fresh}
-use Rattle.writer.specs.Steps.{Consistent, state, made, capacity}
+use Rattle.writer.specs.Steps.{Consistent, state, capacity}
 use Rattle.writer.proofs.Makings.{made_consistent}
 use Rattle.writer.proofs.write.Write.new.Goals as goal
 

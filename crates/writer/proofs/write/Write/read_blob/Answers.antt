@@ -1,4 +1,4 @@
-use Rattle.std.proofs.Common.{◌≡◌, length, take, drop, sym, refl, ap, ◌∙◌, inl, true-eqb}
+use Rattle.std.proofs.Common.{length, take, drop, sym, refl, ap, ◌∙◌, inl, true-eqb}
 use Rattle.std.proofs.lemmas.List.{nil_from_length}
 use Rattle.writer.proofs.write.Write.read_blob.Goals as goal
 

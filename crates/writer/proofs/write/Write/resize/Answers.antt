@@ -1,7 +1,7 @@
-use Rattle.std.proofs.Common.{◌≡◌, ◌≤◌, sym, ◌∙◌, subst, arith}
+use Rattle.std.proofs.Common.{◌≤◌, sym, ◌∙◌, subst, arith}
 use Rattle.writer.specs.Boxes.{ResizesBoxes}
 use Rattle.writer.specs.Steps.{Concludes, ResizeTo, limit}
-use Rattle.writer.specs.View.{parts, view}
+use Rattle.writer.specs.View.{view}
 use Rattle.writer.proofs.Ready.{resizes_stays}
 use Rattle.writer.proofs.Concluding.{ready, concluded, stays_consistent}
 use Rattle.writer.proofs.write.Write.resize.Goals as goal

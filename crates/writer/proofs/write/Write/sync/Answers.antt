@@ -1,7 +1,7 @@
-use Rattle.std.proofs.Common.{◌≡◌, sym, ◌∙◌, subst}
+use Rattle.std.proofs.Common.{sym, ◌∙◌, subst}
 use Rattle.writer.specs.Boxes.{SyncsBoxes}
 use Rattle.writer.specs.Steps.{Concludes, SyncAll}
-use Rattle.writer.specs.View.{parts, view}
+use Rattle.writer.specs.View.{view}
 use Rattle.writer.proofs.Ready.{syncs_stays}
 use Rattle.writer.proofs.Concluding.{ready, concluded, stays_consistent}
 use Rattle.writer.proofs.write.Write.sync.Goals as goal

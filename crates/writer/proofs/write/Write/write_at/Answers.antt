@@ -1,7 +1,7 @@
-use Rattle.std.proofs.Common.{◌≡◌, false, length, Ok, Err, sym, refl, ap, ◌∙◌, subst}
+use Rattle.std.proofs.Common.{length, Ok, sym, ◌∙◌, subst}
 use Rattle.writer.specs.Boxes.{LaysPieces}
 use Rattle.writer.specs.Steps.{Concludes, Admits, WriteAt}
-use Rattle.writer.specs.View.{parts, view}
+use Rattle.writer.specs.View.{view}
 use Rattle.writer.proofs.Ready.{pieces_stay}
 use Rattle.writer.proofs.Concluding.{ready, concluded, stays_consistent}
 use Rattle.writer.proofs.write.Write.write_at.Goals as goal
