@@ -1,13 +1,12 @@
 // The flat blob's making and its calls. Each is proved to have a blob's meaning, and beside that promises
 // every byte of the area.
-ghost use Rattle.std.specs.Prelude.{◌≡◌, ◌+◌, ◌<◌, ◌≤◌, true, false, length, IfErr, MatchResult};
+ghost use Rattle.std.specs.Prelude.{◌≡◌, ◌+◌, ◌<◌, ◌≤◌, true, false, length, IfErr, MatchResult, refl};
 ghost use Rattle.blob.specs.Bytes.{part};
 ghost use Rattle.blob.specs.Meaning.{broken, Limited, Reads, StaysSound, ReadKeeps, Writes, SyncWrites, Resizes, Syncs, Starts as BlobStarts, Finishes};
 ghost use Rattle.blob.specs.declared.BlobError.TheVariants.{NoRoom, BlobInsufficientLength};
 ghost use Rattle.blob.specs.declared.StartedSync.TheVariants.{Idle};
 ghost use Rattle.blobs.specs.Flat.{Starts, fresh, disk_of, wrote, settled, beginning, finished, AfterWrite, AfterResize};
 ghost use Rattle.blobs.specs.Shape.{shape};
-ghost use Rattle.std.proofs.Common.{rules, arith};
 
 use super::{FlatBlob, StartError};
 use blob::area::{clear, lay};
@@ -133,11 +132,11 @@ impl Readable for FlatBlob {
 impl Blob for FlatBlob {
     ghost disk = { λ s. disk_of (shape s) };
 
-    ghost agrees = { first_of (Prim.search rules, Prim.grind (arith, Self.row.coded.inj)) };
+    ghost agrees = { λ _. refl };
 
-    ghost sounds = { first_of (Prim.search rules, Prim.grind (arith, Self.row.coded.inj)) };
+    ghost sounds = { λ _. refl };
 
-    ghost unbroken = { first_of (Prim.search rules, Prim.grind (arith, Self.row.coded.inj)) };
+    ghost unbroken = { λ x _. x.unbroken };
 
     fn limit(&self) -> u64 {
         self.limit as u64
