@@ -3,6 +3,7 @@ ghost use Rattle.std.specs.Prelude.{◌≡◌, ◌+◌, ◌-◌, length, replica
 ghost use Rattle.blob.specs.Bytes.{laid, Reaches};
 
 // Copies `bytes` into the area from `start` on.
+#[tactic(auto, using(crate::proofs::Parts::part_writes))]
 pub fn put(area: &mut [u8], start: usize, bytes: &[u8])
     requires { Reaches area.old (start + length bytes.now) }
     ensures { area.new ≡ laid area.old start bytes.now }
@@ -11,7 +12,8 @@ pub fn put(area: &mut [u8], start: usize, bytes: &[u8])
     area[start..end].copy_from_slice(bytes);
 }
 
-// Fills the area with zeros from `start` up to `end`.
+// Fills the area with zeros from `start` up to `end`, and leaves it where `start` is not below that.
+#[tactic(auto, using(crate::proofs::Parts::part_writes))]
 pub fn clear(area: &mut [u8], start: usize, end: usize)
     requires { Reaches area.old end }
     ensures { area.new ≡ laid area.old start (replicate (end - start) 0) }
