@@ -14,4 +14,4 @@ put_mid-laid a k xs ys zs same size fits = grind (arith, common_steps, laid_is, 
 pub paste-laid : (d : List ℕ) (at : ℕ) (s : List ℕ) (n : ℕ) → at + n ≤ length d → n ≤ length s → paste d at s n ≡ laid d at (take n s)
 paste-laid d at s n fits long = grind (arith, common_steps, laid_is, laid_nothing)
 
-pub ruleset part_writes = (put_mid-laid, laid_nothing)
+pub ruleset part_writes = (put_mid-laid, paste-laid, laid_nothing)

@@ -1,6 +1,6 @@
 // The flat blob's making and its calls. Each is proved to have a blob's meaning, and beside that promises
 // every byte of the area.
-ghost use Rattle.std.specs.Prelude.{◌≡◌, ◌+◌, ◌<◌, ◌≤◌, true, false, length, IfErr, MatchResult, refl};
+ghost use Rattle.std.specs.Prelude.{◌≡◌, ◌+◌, ◌<◌, ◌≤◌, true, false, length, IsSome, IfSome, ◌↔◌, refl};
 ghost use Rattle.blob.specs.Bytes.{part};
 ghost use Rattle.blob.specs.Meaning.{broken, Limited, Reads, StaysSound, ReadKeeps, Writes, SyncWrites, Resizes, Syncs, Starts as BlobStarts, Finishes};
 ghost use Rattle.blob.specs.declared.BlobError.TheVariants.{NoRoom, BlobInsufficientLength};
@@ -13,12 +13,21 @@ use blob::area::{clear, lay};
 use blob::{Blob, BlobError, Readable, StartedSync};
 
 // The largest limit of any blob, 2^62.
-const MAX_LIMIT: usize = 4611686018427387904;
+const MAX_LIMIT: usize = 1 << 62;
 
 fn half(area_len: usize) -> usize
     ensures { result ≡ Rattle.blobs.specs.Flat.half area_len }
 {
     (area_len / 2).min(MAX_LIMIT)
+}
+
+// Where `n` bytes from `place` on end, unless that is above `bound`.
+fn end_within(place: u64, n: usize, bound: usize) -> Option<usize>
+    ensures some { IsSome result ↔ (place + n ≤ bound) }
+    ensures end { IfSome result (λ end. end ≡ place + n) }
+{
+    let end = (place as usize).checked_add(n)?;
+    (end <= bound).then_some(end)
 }
 
 impl FlatBlob {
@@ -62,19 +71,6 @@ impl FlatBlob {
         &self.area[self.limit..self.limit + self.durable_len]
     }
 
-    // Where a write of `n` bytes at `place` ends, unless that is above the limit.
-    fn end_within(&self, place: u64, n: usize) -> Result<usize, BlobError>
-        ensures { MatchResult result (λ end. (end ≡ place + n) × (end ≤ self.now.limit)) (λ e. (e ≡ NoRoom) × (self.now.limit < place + n)) }
-    {
-        let Some(end) = place.checked_add(n as u64) else {
-            return Err(BlobError::NoRoom);
-        };
-        if end > self.limit as u64 {
-            return Err(BlobError::NoRoom);
-        }
-        Ok(end as usize)
-    }
-
     // Puts the bytes at `start`, up to `end`, with zeros in a gap before them.
     fn lay(&mut self, start: usize, end: usize, bytes: &[u8])
         requires { (end ≡ start + length bytes.now) × (end ≤ self.old.limit) × (0 < length bytes.now) }
@@ -86,6 +82,7 @@ impl FlatBlob {
     }
 
     // Makes the durable image equal the content.
+    #[tactic(auto, using(blob::proofs::Parts::part_writes))]
     fn settle(&mut self, after: StartedSync)
         requires { broken after ≡ false }
         ensures { shape self.new ≡ settled (shape self.old) after }
@@ -93,21 +90,6 @@ impl FlatBlob {
         self.area.copy_within(0..self.len, self.limit);
         self.durable_len = self.len;
         self.started = after;
-    }
-
-    // Fills `out` with the content from `place` on.
-    fn copy_out(&self, place: u64, out: &mut [u8]) -> Result<(), BlobError>
-        ensures bytes { Reads (disk_of (shape self.now)).content place out.old result (disk_of (shape self.now)).content out.new }
-        ensures sure { IfErr result (λ e. e ≡ BlobInsufficientLength) }
-    {
-        let Some(end) = place.checked_add(out.len() as u64) else {
-            return Err(BlobError::BlobInsufficientLength);
-        };
-        if end > self.len as u64 {
-            return Err(BlobError::BlobInsufficientLength);
-        }
-        out.copy_from_slice(&self.area[place as usize..end as usize]);
-        Ok(())
     }
 }
 
@@ -125,7 +107,9 @@ impl Readable for FlatBlob {
         ensures sound { StaysSound true result true }
         ensures same { shape self.new ≡ shape self.old }
     {
-        self.copy_out(place, out)
+        let end = end_within(place, out.len(), self.len).ok_or(BlobError::BlobInsufficientLength)?;
+        out.copy_from_slice(&self.area[place as usize..end]);
+        Ok(())
     }
 }
 
@@ -157,7 +141,7 @@ impl Blob for FlatBlob {
         if bytes.is_empty() {
             return Ok(());
         }
-        let end = self.end_within(place, bytes.len())?;
+        let end = end_within(place, bytes.len(), self.limit).ok_or(BlobError::NoRoom)?;
         self.lay(place as usize, end, bytes);
         Ok(())
     }
@@ -167,10 +151,10 @@ impl Blob for FlatBlob {
         ensures exact { AfterWrite (λ f. settled (wrote f place bytes.now) Idle) (shape self.old) bytes.now result (shape self.new) }
     {
         self.write_at(place, bytes)?;
-        if bytes.len() == 0 {
-            return Ok(());
+        if !bytes.is_empty() {
+            self.sync()?;
         }
-        self.sync()
+        Ok(())
     }
 
     fn resize(&mut self, len: u64) -> Result<(), BlobError>
