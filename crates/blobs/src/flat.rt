@@ -14,7 +14,7 @@ mod calls;
 #[derive(Clone, Copy)]
 pub enum StartError {
     // It is above the limit.
-    BadStart,
+    BadStart = 7,
 }
 
 impl StartError {
@@ -22,13 +22,11 @@ impl StartError {
     pub fn number(&self) -> u8
         ensures { result ≡ number self.now }
     {
-        match self {
-            StartError::BadStart => 7,
-        }
+        *self as u8
     }
 }
 
-// A refusal by its number and its name.
+// A refusal by its number and its name. Written by hand, since a derive promises nothing of the text.
 impl fmt::Display for StartError {
     ghost output = { λ e. Some (text e) };
 
@@ -40,6 +38,7 @@ impl fmt::Display for StartError {
     }
 }
 
+// A caller knows each byte of the one area, so the area stays whole and the lengths of its two images stand beside it.
 #[derive(Drop)]
 pub struct FlatBlob {
     area: Vec<u8>,
@@ -48,6 +47,7 @@ pub struct FlatBlob {
     len: usize,
     durable_len: usize,
     started: StartedSync,
+    // No `impl Model`: the values that it shows would not keep these facts, and the law `unbroken` of a blob needs one.
     ghost halves: { limit + limit ≤ vec_len area },
     ghost small: { limit ≤ 2 ^ 62 },
     ghost content_fits: { len ≤ limit },

@@ -5,8 +5,8 @@ ghost use Rattle.blob.specs.Bytes.{part};
 ghost use Rattle.blob.specs.Meaning.{broken, Limited, Reads, StaysSound, ReadKeeps, Writes, SyncWrites, Resizes, Syncs, Starts as BlobStarts, Finishes};
 ghost use Rattle.blob.specs.declared.BlobError.TheVariants.{NoRoom, BlobInsufficientLength};
 ghost use Rattle.blob.specs.declared.StartedSync.TheVariants.{Idle};
-ghost use Rattle.blobs.specs.Flat.{Starts, fresh, disk_of, wrote, settled, beginning, finished, AfterWrite, AfterResize};
-ghost use Rattle.blobs.specs.Shape.{shape};
+ghost use Rattle.blobs.specs.Flat.{Starts, fresh, wrote, settled, beginning, finished, AfterWrite, AfterResize};
+ghost use Rattle.blobs.specs.Shape.{shape, disk};
 
 use super::{FlatBlob, StartError};
 use blob::area::{clear, lay};
@@ -59,14 +59,14 @@ impl FlatBlob {
 
     // What can be read.
     pub fn content(&self) -> &[u8]
-        ensures { result.now ≡ (disk_of (shape self.now)).content }
+        ensures { result.now ≡ (disk self.now).content }
     {
         &self.area[0..self.len]
     }
 
     // What a power cut would leave.
     pub fn durable(&self) -> &[u8]
-        ensures { result.now ≡ (disk_of (shape self.now)).durable }
+        ensures { result.now ≡ (disk self.now).durable }
     {
         &self.area[self.limit..self.limit + self.durable_len]
     }
@@ -93,8 +93,9 @@ impl FlatBlob {
     }
 }
 
+// A method's own clauses stand in place of its trait's, so each says the trait's again beside the exact one.
 impl Readable for FlatBlob {
-    ghost content = { λ s. (disk_of (shape s)).content };
+    ghost content = { λ s. (disk s).content };
 
     ghost sound = { λ _. true };
 
@@ -103,7 +104,7 @@ impl Readable for FlatBlob {
     }
 
     fn read_at(&mut self, place: u64, out: &mut [u8]) -> Result<(), BlobError>
-        ensures bytes { Reads (disk_of (shape self.old)).content place out.old result (disk_of (shape self.new)).content out.new }
+        ensures bytes { Reads (disk self.old).content place out.old result (disk self.new).content out.new }
         ensures sound { StaysSound true result true }
         ensures same { shape self.new ≡ shape self.old }
     {
@@ -114,7 +115,7 @@ impl Readable for FlatBlob {
 }
 
 impl Blob for FlatBlob {
-    ghost disk = { λ s. disk_of (shape s) };
+    ghost disk = { disk };
 
     ghost agrees = { λ _. refl };
 
@@ -127,15 +128,15 @@ impl Blob for FlatBlob {
     }
 
     fn read_back(&mut self, place: u64, out: &mut [u8]) -> Result<(), BlobError>
-        ensures bytes { Reads (disk_of (shape self.old)).content place out.old result (disk_of (shape self.new)).content out.new }
-        ensures keeps { ReadKeeps (disk_of (shape self.old)) result (disk_of (shape self.new)) }
+        ensures bytes { Reads (disk self.old).content place out.old result (disk self.new).content out.new }
+        ensures keeps { ReadKeeps (disk self.old) result (disk self.new) }
         ensures same { shape self.new ≡ shape self.old }
     {
         self.read_at(place, out)
     }
 
     fn write_at(&mut self, place: u64, bytes: &[u8]) -> Result<(), BlobError>
-        ensures means { Writes (disk_of (shape self.old)) place bytes.now result (disk_of (shape self.new)) }
+        ensures means { Writes (disk self.old) place bytes.now result (disk self.new) }
         ensures exact { AfterWrite (λ f. wrote f place bytes.now) (shape self.old) bytes.now result (shape self.new) }
     {
         if bytes.is_empty() {
@@ -147,7 +148,7 @@ impl Blob for FlatBlob {
     }
 
     fn write_at_sync(&mut self, place: u64, bytes: &[u8]) -> Result<(), BlobError>
-        ensures means { SyncWrites (disk_of (shape self.old)) place bytes.now result (disk_of (shape self.new)) }
+        ensures means { SyncWrites (disk self.old) place bytes.now result (disk self.new) }
         ensures exact { AfterWrite (λ f. settled (wrote f place bytes.now) Idle) (shape self.old) bytes.now result (shape self.new) }
     {
         self.write_at(place, bytes)?;
@@ -158,7 +159,7 @@ impl Blob for FlatBlob {
     }
 
     fn resize(&mut self, len: u64) -> Result<(), BlobError>
-        ensures means { Resizes (disk_of (shape self.old)) len result (disk_of (shape self.new)) }
+        ensures means { Resizes (disk self.old) len result (disk self.new) }
         ensures exact { AfterResize (shape self.old) len result (shape self.new) }
     {
         if len > self.limit as u64 {
@@ -171,7 +172,7 @@ impl Blob for FlatBlob {
     }
 
     fn sync(&mut self) -> Result<(), BlobError>
-        ensures means { Syncs (disk_of (shape self.old)) result (disk_of (shape self.new)) }
+        ensures means { Syncs (disk self.old) result (disk self.new) }
         ensures exact { shape self.new ≡ settled (shape self.old) Idle }
     {
         self.settle(StartedSync::Idle);
@@ -179,14 +180,14 @@ impl Blob for FlatBlob {
     }
 
     fn start_sync(&mut self)
-        ensures means { BlobStarts (disk_of (shape self.old)) (disk_of (shape self.new)) }
+        ensures means { BlobStarts (disk self.old) (disk self.new) }
         ensures exact { shape self.new ≡ beginning (shape self.old) }
     {
         self.started = StartedSync::Started;
     }
 
     fn finish_sync(&mut self) -> Result<(), BlobError>
-        ensures means { Finishes (disk_of (shape self.old)) result (disk_of (shape self.new)) }
+        ensures means { Finishes (disk self.old) result (disk self.new) }
         ensures exact { shape self.new ≡ finished (shape self.old) self.old.started }
     {
         match self.started {
