@@ -1,6 +1,14 @@
-// Writes into the middle of an area of bytes.
-ghost use Rattle.std.specs.Prelude.{◌≡◌, ◌+◌, ◌-◌, length, replicate};
+// Writes into the middle of an area of bytes, and where a part of it ends.
+ghost use Rattle.std.specs.Prelude.{◌≡◌, ◌+◌, ◌-◌, ◌≤◌, ◌↔◌, IfSome, IsSome, length, replicate};
 ghost use Rattle.blob.specs.Bytes.{laid, Reaches};
+
+// Where `len` bytes from `start` on end, unless that is above `bound`.
+pub fn end_within(start: usize, len: usize, bound: usize) -> Option<usize>
+    ensures some { IsSome result ↔ (start + len ≤ bound) }
+    ensures end { IfSome result (λ end. end ≡ start + len) }
+{
+    start.checked_add(len).filter(|&end| end <= bound)
+}
 
 // Copies `bytes` into the area from `start` on.
 #[tactic(auto, using(crate::proofs::Parts::part_writes))]

@@ -1,6 +1,6 @@
 // The flat blob's making and its calls. Each is proved to have a blob's meaning, and beside that promises
 // every byte of the area.
-ghost use Rattle.std.specs.Prelude.{◌≡◌, ◌+◌, ◌<◌, ◌≤◌, true, false, length, IsSome, IfSome, ◌↔◌, refl};
+ghost use Rattle.std.specs.Prelude.{◌≡◌, ◌+◌, ◌<◌, ◌≤◌, true, false, length, refl};
 ghost use Rattle.blob.specs.Bytes.{part};
 ghost use Rattle.blob.specs.Meaning.{broken, Limited, Reads, StaysSound, ReadKeeps, Writes, SyncWrites, Resizes, Syncs, Starts as BlobStarts, Finishes};
 ghost use Rattle.blob.specs.declared.BlobError.TheVariants.{NoRoom, BlobInsufficientLength};
@@ -9,7 +9,7 @@ ghost use Rattle.blobs.specs.Flat.{Starts, fresh, wrote, settled, beginning, fin
 ghost use Rattle.blobs.specs.Shape.{shape, disk};
 
 use super::{FlatBlob, StartError};
-use blob::area::{clear, lay};
+use blob::area::{clear, end_within, lay};
 use blob::{Blob, BlobError, Readable, StartedSync};
 
 // The largest limit of any blob, 2^62.
@@ -19,15 +19,6 @@ fn half(area_len: usize) -> usize
     ensures { result ≡ Rattle.blobs.specs.Flat.half area_len }
 {
     (area_len / 2).min(MAX_LIMIT)
-}
-
-// Where `n` bytes from `place` on end, unless that is above `bound`.
-fn end_within(place: u64, n: usize, bound: usize) -> Option<usize>
-    ensures some { IsSome result ↔ (place + n ≤ bound) }
-    ensures end { IfSome result (λ end. end ≡ place + n) }
-{
-    let end = (place as usize).checked_add(n)?;
-    (end <= bound).then_some(end)
 }
 
 impl FlatBlob {
@@ -108,8 +99,9 @@ impl Readable for FlatBlob {
         ensures sound { StaysSound true result true }
         ensures same { shape self.new ≡ shape self.old }
     {
-        let end = end_within(place, out.len(), self.len).ok_or(BlobError::BlobInsufficientLength)?;
-        out.copy_from_slice(&self.area[place as usize..end]);
+        let start = place as usize;
+        let end = end_within(start, out.len(), self.len).ok_or(BlobError::BlobInsufficientLength)?;
+        out.copy_from_slice(&self.area[start..end]);
         Ok(())
     }
 }
@@ -142,8 +134,9 @@ impl Blob for FlatBlob {
         if bytes.is_empty() {
             return Ok(());
         }
-        let end = end_within(place, bytes.len(), self.limit).ok_or(BlobError::NoRoom)?;
-        self.lay(place as usize, end, bytes);
+        let start = place as usize;
+        let end = end_within(start, bytes.len(), self.limit).ok_or(BlobError::NoRoom)?;
+        self.lay(start, end, bytes);
         Ok(())
     }
 
