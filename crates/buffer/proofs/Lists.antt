@@ -1,28 +1,10 @@
 -- Laws of piece lists, one piece on.
-use Rattle.std.proofs.Common.{◌≡◌, ℕ, ◌+◌, ◌<◌, ◌≤◌, Bool, true, false, ◌&&◌, ◌||◌, ltb, leb, List, length, get_or, drop, sym, refl, ap, lt-ltb, leb-true}
+use Rattle.std.proofs.Common.{◌≡◌, ℕ, ◌+◌, ◌<◌, ◌≤◌, Bool, true, false, ◌&&◌, ◌||◌, ltb, List, length, get_or, drop, refl, arith}
 use borrow.Author.Tests.{clash}
 use Rattle.std.proofs.lemmas.List.{at_drop_more}
+use Rattle.std.proofs.lemmas.Grind.{common_steps}
 use Rattle.buffer.specs.declared.pieces.Piece.{Piece}
 use Rattle.buffer.specs.Pieces.{inside, carries, total, all_inside}
-
--- a test that came out true, or false, among others
-pub found : (a f r t : Bool) → f ≡ true → (a || (f || r)) ≡ t → true ≡ t
-found true f r t h e = e
-found false true r t h e = e
-found false false r t h e = absurd (clash h)
-
-pub missed : (a f r t : Bool) → f ≡ false → (a || (f || r)) ≡ t → (a || r) ≡ t
-missed true f r t h e = e
-missed false true r t h e = absurd (clash (sym h))
-missed false false r t h e = e
-
-pub or_false : (a : Bool) → (a || false) ≡ a
-or_false true = refl
-or_false false = refl
-
-or_true : (a b : Bool) → b ≡ true → (a || b) ≡ true
-or_true true b h = refl
-or_true false b h = h
 
 pub and_true : (a b : Bool) → (a && b) ≡ true → (a ≡ true) × (b ≡ true)
 and_true true b h = (refl, h)
@@ -40,13 +22,11 @@ module _ (ps : List Piece) (i : ℕ) (d : Piece) (low : i < length ps) where
 
 -- a piece inside its area
 pub inside_bounds : (n : ℕ) (p : Piece) → inside n p ≡ true → (p.len ≤ 65536) × (p.start + p.len ≤ n)
-inside_bounds n p h =
-    let both = and_true (leb p.len 65536) (leb (p.start + p.len) n) h in
-    (leb-true p.len 65536 both.0, leb-true (p.start + p.len) n both.1)
+inside_bounds n p h = grind (arith, common_steps)
 
 -- a list carries a byte where its first piece does, or another
 pub carries_first : (n : ℕ) (rest : Bool) → 0 < n → (ltb 0 n || rest) ≡ true
-carries_first n rest some = ap (λ b. b || rest) (lt-ltb 0 n some)
+carries_first n rest some = grind (arith, common_steps)
 
 pub carries_rest : (n : ℕ) (rest : Bool) → rest ≡ true → (ltb 0 n || rest) ≡ true
-carries_rest n rest h = or_true (ltb 0 n) rest h
+carries_rest n rest h = grind (arith, common_steps)

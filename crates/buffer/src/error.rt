@@ -9,28 +9,21 @@ use std::fmt;
 #[derive(Clone, Copy)]
 pub enum Step {
     // Writing the drained tip.
-    Flush,
+    Flush = 1,
     // Writing a piece that does not go through the tip.
-    DirectWrite,
-    Resize,
-    Sync,
+    DirectWrite = 2,
+    Resize = 3,
+    Sync = 4,
     // Waiting for a started sync.
-    Wait,
-    Read,
+    Wait = 5,
+    Read = 6,
 }
 
 impl Step {
     pub fn number(&self) -> u8
         ensures { result ≡ step_number self.now }
     {
-        match self {
-            Step::Flush => 1,
-            Step::DirectWrite => 2,
-            Step::Resize => 3,
-            Step::Sync => 4,
-            Step::Wait => 5,
-            Step::Read => 6,
-        }
+        *self as u8
     }
 }
 
@@ -88,7 +81,7 @@ impl From<Fault> for Error {
     }
 }
 
-// A refusal by its number, its name and its values.
+// A refusal by its number, its name and its values. Written by hand, since a derive promises nothing of the text.
 impl fmt::Display for Error {
     ghost output = { λ e. Some (text e) };
 

@@ -4,6 +4,7 @@ ghost use Rattle.blob.specs.Bytes.{part};
 ghost use Rattle.buffer.specs.Pieces.{inside, run, carries, Checked};
 
 use crate::error::Error;
+use blob::area::end_within;
 
 // The most pieces of a list.
 const MAX_PIECES: usize = 1024;
@@ -23,7 +24,7 @@ impl Piece {
     fn is_inside(&self, area_len: usize) -> bool
         ensures { result ≡ inside area_len self.now }
     {
-        self.len <= MAX_PIECE_LEN && self.start <= area_len && self.len <= area_len - self.start
+        self.len <= MAX_PIECE_LEN && end_within(self.start, self.len, area_len).is_some()
     }
 }
 
@@ -34,7 +35,7 @@ pub struct PieceList<'a> {
 }
 
 impl PieceList<'_> {
-    // Whether the list carries any byte.
+    // Whether the list carries any byte. A loop over the records, a form that docs/DECISIONS.md keeps.
     pub fn carries_any_byte(&self) -> bool
         ensures { result ≡ carries self.now.pieces.now }
     {

@@ -3,7 +3,7 @@ ghost use Rattle.std.specs.Prelude.{◌≡◌, ◌+◌, ◌-◌, ◌≤◌, leng
 ghost use Rattle.blob.specs.Bytes.{part as part_of};
 ghost use Rattle.buffer.specs.Tip.{Sized, HeldPart, Merges, Drains, Resized, raised, fresh, below, buffered};
 
-use blob::area::clear;
+use blob::area::{clear, end_within};
 
 // The most bytes that a tip can hold.
 pub const MAX_CAPACITY: usize = 4096;
@@ -16,10 +16,11 @@ fn copy_run(part: &mut [u8], run: &[u8])
     part.copy_from_slice(run);
 }
 
+// `Sized` is no ghost field: `new`, `resize` and `raise` take any number, and contracts make tips of any bytes and length.
 #[derive(Drop)]
 pub struct Buffer {
-    // The first `len` of these are buffered.
-    bytes: [u8; 4096],
+    // The first `len` of these are buffered. An array, since no writer call allocates and those behind stay readable.
+    bytes: [u8; MAX_CAPACITY],
     len: usize,
     // The place of the first buffered byte.
     offset: u64,
@@ -32,7 +33,7 @@ impl Buffer {
         ensures { result ≡ fresh offset capacity }
     {
         Buffer {
-            bytes: [0; 4096],
+            bytes: [0; MAX_CAPACITY],
             len: 0,
             offset,
             capacity,
@@ -85,21 +86,21 @@ impl Buffer {
 
     // Merges the run into the tip where it fits between the offset and the capacity. A gap in the tip
     // becomes zeros. Answers whether it fitted; where it did not, nothing has changed.
+    #[tactic(auto, using(blob::proofs::Parts::part_writes, crate::proofs::Tips::merges))]
     pub fn merge(&mut self, place: u64, run: &[u8]) -> bool
         requires { Sized self.old }
         ensures { Merges self.old place run.now result self.new }
     {
-        let Some(end) = place.checked_add(run.len() as u64) else {
+        let Some(start) = place.checked_sub(self.offset) else {
             return false;
         };
-        if place < self.offset || end > self.offset + self.capacity as u64 {
+        let start = start as usize;
+        let Some(end) = end_within(start, run.len(), self.capacity) else {
             return false;
-        }
+        };
         if run.is_empty() {
             return true;
         }
-        let start = (place - self.offset) as usize;
-        let end = start + run.len();
         clear(&mut self.bytes, self.len, start);
         copy_run(&mut self.bytes[start..end], run);
         self.len = self.len.max(end);
@@ -112,7 +113,7 @@ impl Buffer {
         requires { Sized self.old }
         ensures { Drains self.old result self.new }
     {
-        if self.len == 0 {
+        if self.is_empty() {
             return None;
         }
         let range = (self.offset, self.len);
