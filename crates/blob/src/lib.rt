@@ -20,7 +20,7 @@ pub enum BlobError {
 }
 
 impl BlobError {
-    // The number of the refusal, the same in every layer.
+    // The number of the refusal, the same in every layer. A match, since `as` takes no enum that carries values.
     pub fn number(&self) -> u8
         ensures { result ≡ number self.now }
     {

@@ -57,6 +57,7 @@ pub enum Error {
 }
 
 impl Error {
+    // A match, since `as` takes no enum that carries values.
     pub fn number(&self) -> u8
         ensures { result ≡ number self.now }
     {
