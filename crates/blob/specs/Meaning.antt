@@ -156,9 +156,8 @@ pub record Synced (b c : Disk) (after : StartedSync) : Type 0 where
 
 abbrev pub Syncs : Disk → Answer → Disk → Type 0
 Syncs b (Ok _) c = Synced b c Idle
-Syncs b (Err NoRoom) c = ⊥
-Syncs b (Err BlobInsufficientLength) c = ⊥
 Syncs b (Err (DeviceFault code)) c = (c.content ≡ b.content) × Fails b code c
+Syncs b (Err e) c = ⊥
 
 -- Starting a sync never fails.
 pub record Starts (b c : Disk) : Type 0 where
@@ -185,6 +184,5 @@ pub record Again (b : Disk) (before : StartedSync) (c : Disk) : Type 0 where
 
 abbrev pub Finishes : Disk → Answer → Disk → Type 0
 Finishes b (Ok _) c = ((b.started ≡ Started) × Synced b c Done) ⊎ (Again b Done c × (b.durable ≡ b.content)) ⊎ Again b Idle c
-Finishes b (Err NoRoom) c = ⊥
-Finishes b (Err BlobInsufficientLength) c = ⊥
 Finishes b (Err (DeviceFault code)) c = ((b.started ≡ Started) × Breaks b code c) ⊎ (Again b (Broken code) c × Code code)
+Finishes b (Err e) c = ⊥

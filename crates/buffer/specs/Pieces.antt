@@ -40,11 +40,6 @@ pub record Offends (n : ℕ) (ps : List Piece) (i : ℕ) : Type 0 where
 
 abbrev pub Checked : ℕ → List Piece → Result ℕ Error → Type 0
 Checked n ps (Ok count) = SoundList n ps × (count ≡ total ps)
-Checked n ps (Err BadCapacity) = ⊥
 Checked n ps (Err TooManyPieces) = 1024 < length ps
 Checked n ps (Err (BadPiece i)) = Offends n ps i
-Checked n ps (Err OffsetOverflow) = ⊥
-Checked n ps (Err NoRoom) = ⊥
-Checked n ps (Err BlobInsufficientLength) = ⊥
-Checked n ps (Err Closed) = ⊥
-Checked n ps (Err (DeviceFault fault)) = ⊥
+Checked n ps (Err e) = ⊥
