@@ -1,6 +1,5 @@
 pub mod Splits
 pub mod Cuts
-pub mod Scans
+pub mod Digits
 pub mod Places
 pub mod Names
-pub mod Meanings

@@ -1,64 +1,90 @@
--- A word at its place in the slices that hold the words, and loops that read word after word. Assumes nothing.
-use Rattle.std.proofs.Common.{◌≡◌, ℕ, ◌+◌, ◌<◌, ◌≤◌, true, false, ltb, List, [], ◌∷◌, ◌++◌, length, get_or, take, drop, Ok, Err, Result, sym, refl, ap, ◌∙◌, append_assoc, append-nil, arith, Bor}
-use Rattle.std.specs.List.{flat_map}
-use Rattle.std.proofs.lemmas.List.{length-map, length-append, get_or-map, drop_more, drop_all, drop_at, take_at}
-use Rattle.std.proofs.lemmas.Bool.{lt-ltb, le-ltb}
+-- Loops that read the words of a line one after another. Assumes nothing.
+use Rattle.std.proofs.Common.{◌≡◌, ℕ, ◌+◌, ◌-◌, ◌<◌, ◌≤◌, List, [], ◌∷◌, ◌++◌, length, get_or, take, drop, Ok, Err, Result, sym, refl, ap, ◌∙◌, append_assoc, append-nil, arith, Bor, Iter, Option, Some, None}
+use Rattle.std.specs.List.{flat_map, enumerate_from}
+use Rattle.std.proofs.lemmas.List.{length-map, length-append, length-drop, length_push, get_or-map, get_or-drop, drop_more, drop_all, drop_at, take_at}
+use Rattle.std.proofs.lemmas.List.FromFn.{length-enumerate_from, get_or-enumerate_from}
+use Rattle.std.specs.Iterator.{Yields}
+use Rattle.std.specs.Iterator.Adapters.{skip_source, skip_count, skip_steps, enumerate_source, enumerate_count, enumerate_steps}
+use Rattle.std.specs.Slice.Iter.{iter_rest}
+use Rattle.std.specs.declared.iter.Skip.{Skip}
+use Rattle.std.specs.declared.iter.Enumerate.{Enumerate}
+use Rattle.std.proofs.iter.Yields.{fronts}
+use Rattle.std.proofs.lemmas.Iterator.{YieldsList, YieldsList-from_slice}
+use Rattle.std.proofs.lemmas.Iterator.Adapters.{YieldsList-from_skip}
+use Rattle.std.proofs.lemmas.Iterator.Consumers.{YieldsList-from_enumerate, YieldsList-turn, YieldsList-end}
 use Rattle.call_list.specs.declared.calls.Span.{Span}
 use Rattle.call_list.specs.declared.mistakes.Mistake.{Mistake}
-use Rattle.call_list.specs.declared.mistakes.Mistake.TheVariants.{MissingWord, SpareWord}
 use Rattle.call_list.specs.Line.{contents}
-use Rattle.call_list.specs.Calls.{word_as, all_as, no_more, end_to_end, parts}
+use Rattle.call_list.specs.Calls.{all_as, end_to_end, parts}
 use Rattle.call_list.specs.Values.{◌then◌}
 
-module _ (ws : List (Bor (List ℕ))) (k : ℕ) where
-  pub there : k < length ws → ltb k (length (contents ws)) ≡ true
-  there h = lt-ltb k (length (contents ws)) (rw (length-map ws (λ (s : Bor (List ℕ)). s.now)) h)
+content_there : (ws : List (Bor (List ℕ))) (k : ℕ) (d : Bor (List ℕ)) → k < length ws → get_or (contents ws) k [] ≡ (get_or ws k d).now
+content_there ws k d h = get_or-map (λ (s : Bor (List ℕ)). s.now) ws k d [] h
 
-  pub past : length ws ≤ k → ltb k (length (contents ws)) ≡ false
-  past h = le-ltb k (length (contents ws)) (rw (length-map ws (λ (s : Bor (List ℕ)). s.now)) h)
+-- the words from `from` on, each with its number
+abbrev pub numbered : ℕ → List (Bor (List ℕ)) → List (ℕ × Bor (List ℕ))
+numbered from ws = drop from (enumerate_from 0 ws)
 
-  pub content_there : (d : Bor (List ℕ)) → k < length ws → get_or (contents ws) k [] ≡ (get_or ws k d).now
-  content_there d h = get_or-map (λ (s : Bor (List ℕ)). s.now) ws k d [] h
+length-numbered : (from : ℕ) (ws : List (Bor (List ℕ))) → length (numbered from ws) ≡ length ws - from
+length-numbered from ws = length-drop from (enumerate_from 0 ws) ∙ ap (λ n. n - from) (length-enumerate_from 0 ws)
 
-  pub word_there : {X : Type 0} (rule : ℕ → List ℕ → Result X Mistake) (d : Bor (List ℕ)) → k < length ws → rule k (get_or ws k d).now ≡ word_as rule (contents ws) k
-  word_there rule d h = rw (there h) (ap (rule k) (sym (content_there d h)))
+-- the chain `iter().enumerate().skip(from)` over the words gives them
+module _ (ws : List (Bor (List ℕ))) (from : ℕ) (s : Skip (Enumerate (Iter (Bor (List ℕ))))) (is : iter_rest (enumerate_source (skip_source s)) ≡ ws) (start : enumerate_count (skip_source s) ≡ 0) (skip : skip_count s ≡ from) where
+  road : YieldsList (skip_steps (enumerate_steps fronts)) (λ p. (p.0, p.1.now)) s (numbered from ws)
+  road = YieldsList-from_skip from (YieldsList-from_enumerate (YieldsList-from_slice ws is) start) skip
 
-  pub word_missing : {X : Type 0} (rule : ℕ → List ℕ → Result X Mistake) → length ws ≤ k → Err (MissingWord k) ≡ word_as rule (contents ws) k
-  word_missing rule h = rw (past h)
+  -- one by one
+  pub turn : (taken : List (ℕ × Bor (Bor (List ℕ)))) (t : Skip (Enumerate (Iter (Bor (List ℕ))))) (y : Yields (skip_steps (enumerate_steps fronts)) s taken t) (r : Option (ℕ × Bor (Bor (List ℕ)))) (u : Skip (Enumerate (Iter (Bor (List ℕ))))) (i : ℕ) (b : Bor (Bor (List ℕ))) → r ≡ Some (i, b) → skip_steps (enumerate_steps fronts) t r u → (length taken < length (numbered from ws)) × ◌≡◌ {A = ℕ × Bor (List ℕ)} (i, b.now) (get_or (numbered from ws) (length taken) (i, b.now))
+  turn taken t y r u i b some step = YieldsList-turn road taken t y r u (i, b) some step
 
-  pub spare : k < length ws → Err (SpareWord k) ≡ no_more (contents ws) k
-  spare h = rw (there h)
+  -- and all of them
+  pub at_end : (taken : List (ℕ × Bor (Bor (List ℕ)))) (t : Skip (Enumerate (Iter (Bor (List ℕ))))) (y : Yields (skip_steps (enumerate_steps fronts)) s taken t) (r : Option (ℕ × Bor (Bor (List ℕ)))) (u : Skip (Enumerate (Iter (Bor (List ℕ))))) → r ≡ None → skip_steps (enumerate_steps fronts) t r u → length taken ≡ length (numbered from ws)
+  at_end taken t y r u none step = (YieldsList-end road taken t y r u none step).1
 
-  pub ended_there : length ws ≤ k → Ok tt ≡ no_more (contents ws) k
-  ended_there h = rw (past h)
+-- what is made by F of words to be read from word k on
+abbrev pub Left : {X Y : Type 0} → (ℕ → List ℕ → Result X Mistake) → List (Bor (List ℕ)) → ℕ → (List X → Y) → Result Y Mistake
+Left rule ws k F = all_as rule k (drop k (contents ws)) then λ xs. Ok (F xs)
 
--- a loop that reads word after word: F makes its result of what it has read and what the words from k on hold
-module _ {X Y : Type 0} (rule : ℕ → List ℕ → Result X Mistake) (ws : List (Bor (List ℕ))) (k : ℕ) (F : List X → Y) (all : Result Y Mistake) (e : (all_as rule k (drop k (contents ws)) then λ xs. Ok (F xs)) ≡ all) where
-  next : (d : Bor (List ℕ)) → k < length ws → ((rule k (get_or ws k d).now then λ x. all_as rule (k + 1) (drop (k + 1) (contents ws)) then λ xs. Ok (x ∷ xs)) then λ xs. Ok (F xs)) ≡ all
-  next d h =
-      let long : k < length (contents ws) = rw (length-map ws (λ (s : Bor (List ℕ)). s.now)) h in
-      ap (λ w. (rule k w then λ x. all_as rule (k + 1) (drop (k + 1) (contents ws)) then λ xs. Ok (x ∷ xs)) then λ xs. Ok (F xs)) (sym (content_there ws k d h))
-      ∙ ap (λ l. all_as rule k l then λ xs. Ok (F xs)) (sym (drop_more (contents ws) k [] long))
-      ∙ e
+shifted : {X Y : Type 0} (x : X) (F F' : List X → Y) (rest : Result (List X) Mistake) → ((xs : List X) → F (x ∷ xs) ≡ F' xs) → (rest then λ xs. Ok (F' xs)) ≡ ((rest then λ xs. Ok (x ∷ xs)) then λ xs. Ok (F xs))
+shifted x F F' (Ok xs) same = ap Ok (sym (same xs))
+shifted x F F' (Err m) same = refl
 
-  shifted : (x : X) (F' : List X → Y) (rest : Result (List X) Mistake) → ((xs : List X) → F (x ∷ xs) ≡ F' xs) → (rest then λ xs. Ok (F' xs)) ≡ ((rest then λ xs. Ok (x ∷ xs)) then λ xs. Ok (F xs))
-  shifted x F' (Ok xs) same = ap Ok (sym (same xs))
-  shifted x F' (Err m) same = refl
+-- a loop over the numbered words that has taken `taken`, and makes its result by F of what is still to be read
+module _ {X Y : Type 0} (rule : ℕ → List ℕ → Result X Mistake) (ws : List (Bor (List ℕ))) (from : ℕ) (F : List X → Y) (all : Result Y Mistake) (taken : List (ℕ × Bor (Bor (List ℕ)))) (e : Left rule ws (from + length taken) F ≡ all) where
+  module _ (i : ℕ) (b : Bor (Bor (List ℕ))) (turn : (length taken < length (numbered from ws)) × ◌≡◌ {A = ℕ × Bor (List ℕ)} (i, b.now) (get_or (numbered from ws) (length taken) (i, b.now))) where
+    within : from + length taken < length ws
+    within = omega (arith, turn.0, length-numbered from ws)
 
-  pub one_more : (d : Bor (List ℕ)) (x : X) (F' : List X → Y) → k < length ws → rule k (get_or ws k d).now ≡ Ok x → ((xs : List X) → F (x ∷ xs) ≡ F' xs) → (all_as rule (k + 1) (drop (k + 1) (contents ws)) then λ xs. Ok (F' xs)) ≡ all
-  one_more d x F' h r same = shifted x F' (all_as rule (k + 1) (drop (k + 1) (contents ws))) same ∙ (rw r at (next d h))
+    is : rule i b.now.now ≡ rule (from + length taken) (get_or ws (from + length taken) b.now).now
+    is =
+        let z : 0 + (from + length taken) ≡ from + length taken = omega arith in
+        rw z at
+        (ap (λ (p : ℕ × Bor (List ℕ)). rule p.0 p.1.now)
+        (turn.1 ∙ get_or-drop from (enumerate_from 0 ws) (length taken) (i, b.now) ∙ get_or-enumerate_from 0 ws (from + length taken) (i, b.now) within))
 
-  pub stops : (d : Bor (List ℕ)) (m : Mistake) → k < length ws → rule k (get_or ws k d).now ≡ Err m → Err m ≡ all
-  stops d m h r = rw r at (next d h)
+    next : ((rule i b.now.now then λ x. all_as rule (from + length taken + 1) (drop (from + length taken + 1) (contents ws)) then λ xs. Ok (x ∷ xs)) then λ xs. Ok (F xs)) ≡ all
+    next =
+        let k = from + length taken in
+        let long : k < length (contents ws) = rw (length-map ws (λ (s : Bor (List ℕ)). s.now)) within in
+        ap (λ r. (r then λ x. all_as rule (k + 1) (drop (k + 1) (contents ws)) then λ xs. Ok (x ∷ xs)) then λ xs. Ok (F xs)) (is ∙ ap (rule k) (sym (content_there ws k b.now within)))
+        ∙ ap (λ l. all_as rule k l then λ xs. Ok (F xs)) (sym (drop_more (contents ws) k [] long))
+        ∙ e
 
-  pub all_read : length ws ≤ k → Ok (F []) ≡ all
-  all_read h =
-      let long : length (contents ws) ≤ k = rw (length-map ws (λ (s : Bor (List ℕ)). s.now)) h in
+    pub one_more : (x : X) (F' : List X → Y) → rule i b.now.now ≡ Ok x → ((xs : List X) → F (x ∷ xs) ≡ F' xs) → Left rule ws (from + length (taken ++ ((i, b) ∷ []))) F' ≡ all
+    one_more x F' r same =
+        let k = from + length taken in
+        let after : from + length (taken ++ ((i, b) ∷ [])) ≡ k + 1 = omega (arith, length_push taken (i, b)) in
+        rw after (shifted x F F' (all_as rule (k + 1) (drop (k + 1) (contents ws))) same ∙ (rw r at next))
+
+    pub stops : (m : Mistake) → rule i b.now.now ≡ Err m → Err m ≡ all
+    stops m r = rw r at next
+
+  pub all_read : length taken ≡ length (numbered from ws) → Ok (F []) ≡ all
+  all_read n =
+      let k = from + length taken in
+      let past : length ws ≤ k = omega (arith, length-numbered from ws) in
+      let long : length (contents ws) ≤ k = rw (length-map ws (λ (s : Bor (List ℕ)). s.now)) past in
       ap (λ l. all_as rule k l then λ xs. Ok (F xs)) (sym (drop_all k (contents ws) long)) ∙ e
-
-pub then_ok : {X : Type 0} (r : Result X Mistake) → (r then λ x. Ok x) ≡ r
-then_ok (Ok x) = refl
-then_ok (Err m) = refl
 
 pub pushed_before : {X : Type 0} (out out' : List X) (x : X) → out' ≡ out ++ (x ∷ []) → (xs : List X) → out ++ (x ∷ xs) ≡ out' ++ xs
 pushed_before out out' x e xs = sym (append_assoc out (x ∷ []) xs) ∙ ap (λ l. l ++ xs) (sym e)

@@ -22,7 +22,7 @@ ghost use Rattle.call_list.specs.Calls.{plain, flat_of, writer_of, resize_of, wr
 ghost use Rattle.call_list.specs.Line.{contents, comment};
 ghost use Rattle.call_list.specs.Values.{told, Reads};
 
-use args::{hex_at, hex_if_any, no_more, number_at, one_number, pairs_from, pieces_from};
+use args::Args;
 use std::alloc::Global;
 use std::str::from_utf8;
 use words::split_words;
@@ -36,13 +36,13 @@ mod words;
 pub use calls::{Call, Span};
 pub use mistakes::Mistake;
 
-fn flat(heap: Global, words: &[&[u8]]) -> Result<Call, Mistake>
-    ensures { Reads plain result (flat_of (contents words.now)) }
+fn flat(args: &Args) -> Result<Call, Mistake>
+    ensures { Reads plain result (flat_of (contents args.now.words.now)) }
 {
-    let limit = number_at(words, 1)?;
-    let content = hex_at(heap, words, 2)?;
-    let durable = hex_if_any(heap, words, 3)?;
-    no_more(words, 4)?;
+    let limit = args.number(1)?;
+    let content = args.hex(2)?;
+    let durable = args.hex_if_any(3)?;
+    args.no_more(4)?;
     Ok(Call::Flat {
         limit,
         content,
@@ -51,36 +51,36 @@ fn flat(heap: Global, words: &[&[u8]]) -> Result<Call, Mistake>
 }
 
 /// A call that takes nothing.
-fn bare_call(words: &[&[u8]], call: Call) -> Result<Call, Mistake>
-    ensures { told plain result ≡ bare (contents words.now) (plain call) }
+fn bare_call(args: &Args, call: Call) -> Result<Call, Mistake>
+    ensures { told plain result ≡ bare (contents args.now.words.now) (plain call) }
 {
-    no_more(words, 1)?;
+    args.no_more(1)?;
     Ok(call)
 }
 
-fn read_at(words: &[&[u8]]) -> Result<Call, Mistake>
-    ensures { told plain result ≡ read_of (contents words.now) }
+fn read_at(args: &Args) -> Result<Call, Mistake>
+    ensures { told plain result ≡ read_of (contents args.now.words.now) }
 {
-    let place = number_at(words, 1)?;
-    let len = number_at(words, 2)?;
-    no_more(words, 3)?;
+    let place = args.number(1)?;
+    let len = args.number(2)?;
+    args.no_more(3)?;
     Ok(Call::ReadAt { place, len })
 }
 
-fn try_write_at(heap: Global, words: &[&[u8]]) -> Result<Call, Mistake>
-    ensures { Reads plain result (try_write_of (contents words.now)) }
+fn try_write_at(args: &Args) -> Result<Call, Mistake>
+    ensures { Reads plain result (try_write_of (contents args.now.words.now)) }
 {
-    let place = number_at(words, 1)?;
-    let bytes = hex_at(heap, words, 2)?;
-    no_more(words, 3)?;
+    let place = args.number(1)?;
+    let bytes = args.hex(2)?;
+    args.no_more(3)?;
     Ok(Call::TryWriteAt { place, bytes })
 }
 
-fn write_at(heap: Global, words: &[&[u8]]) -> Result<Call, Mistake>
-    ensures { Reads plain result (write_of (contents words.now)) }
+fn write_at(args: &Args) -> Result<Call, Mistake>
+    ensures { Reads plain result (write_of (contents args.now.words.now)) }
 {
-    let place = number_at(words, 1)?;
-    let (area, pieces) = pieces_from(heap, words, 2)?;
+    let place = args.number(1)?;
+    let (area, pieces) = args.pieces_from(2)?;
     Ok(Call::WriteAt {
         place,
         area,
@@ -88,61 +88,48 @@ fn write_at(heap: Global, words: &[&[u8]]) -> Result<Call, Mistake>
     })
 }
 
-fn write_pieces(heap: Global, words: &[&[u8]]) -> Result<Call, Mistake>
-    ensures { Reads plain result (write_pieces_of (contents words.now)) }
+fn write_pieces(args: &Args) -> Result<Call, Mistake>
+    ensures { Reads plain result (write_pieces_of (contents args.now.words.now)) }
 {
-    let place = number_at(words, 1)?;
-    let area = hex_at(heap, words, 2)?;
-    let pieces = pairs_from(heap, words, 3)?;
+    let place = args.number(1)?;
+    let area = args.hex(2)?;
+    let pieces = args.pairs_from(3)?;
     Ok(Call::WriteAt {
         place,
         area,
         pieces,
     })
-}
-
-fn writer(words: &[&[u8]]) -> Result<Call, Mistake>
-    ensures { told plain result ≡ writer_of (contents words.now) }
-{
-    let capacity = one_number(words)?;
-    Ok(Call::Writer { capacity })
-}
-
-fn resize(words: &[&[u8]]) -> Result<Call, Mistake>
-    ensures { told plain result ≡ resize_of (contents words.now) }
-{
-    let len = one_number(words)?;
-    Ok(Call::Resize { len })
 }
 
 /// The call of this name, with the words of its line.
-fn call_named(heap: Global, name: &str, words: &[&[u8]]) -> Result<Call, Mistake>
-    ensures { Reads plain result (named name.now (table_of (contents words.now))) }
+// A table of functions is no plainer: seven of its twelve rows would be closures round `one_number` or `bare_call`.
+fn call_named(args: &Args, name: &str) -> Result<Call, Mistake>
+    ensures { Reads plain result (named name.now (table_of (contents args.now.words.now))) }
 {
     match name {
-        "flat" => flat(heap, words),
-        "writer" => writer(words),
-        "write_at" => write_at(heap, words),
-        "write_pieces" => write_pieces(heap, words),
-        "try_write_at" => try_write_at(heap, words),
-        "resize" => resize(words),
-        "sync" => bare_call(words, Call::Sync),
-        "read_at" => read_at(words),
-        "size" => bare_call(words, Call::Size),
-        "needs_sync" => bare_call(words, Call::NeedsSync),
-        "blob" => bare_call(words, Call::Blob),
-        "boxes" => bare_call(words, Call::Boxes),
+        "flat" => flat(args),
+        "writer" => args.one_number().map(|capacity| Call::Writer { capacity }),
+        "write_at" => write_at(args),
+        "write_pieces" => write_pieces(args),
+        "try_write_at" => try_write_at(args),
+        "resize" => args.one_number().map(|len| Call::Resize { len }),
+        "sync" => bare_call(args, Call::Sync),
+        "read_at" => read_at(args),
+        "size" => bare_call(args, Call::Size),
+        "needs_sync" => bare_call(args, Call::NeedsSync),
+        "blob" => bare_call(args, Call::Blob),
+        "boxes" => bare_call(args, Call::Boxes),
         _ => Err(Mistake::UnknownCall),
     }
 }
 
-/// The call that the words of a line are.
-fn read_call(heap: Global, words: &[&[u8]]) -> Result<Call, Mistake>
-    requires { 0 < length words.now }
-    ensures { Reads plain result (call_of (contents words.now)) }
+/// The call that the words of a line are, of which `name` is the first.
+#[tactic(auto, using(crate::proofs::Names::no_text))]
+fn read_call(args: &Args, name: &[u8]) -> Result<Call, Mistake>
+    ensures { Reads plain result (named name.now (table_of (contents args.now.words.now))) }
 {
-    match from_utf8(words[0]) {
-        Ok(name) => call_named(heap, name, words),
+    match from_utf8(name) {
+        Ok(name) => call_named(args, name),
         Err(_) => Err(Mistake::UnknownCall),
     }
 }
@@ -161,9 +148,12 @@ pub fn read_line(heap: Global, line: &[u8]) -> Result<Option<Call>, Mistake>
         return Ok(None);
     }
     let words = split_words(heap, line)?;
-    if words.is_empty() {
+    let Some(name) = words.first() else {
         return Ok(None);
-    }
-    let call = read_call(heap, words.as_slice())?;
-    Ok(Some(call))
+    };
+    let args = Args {
+        heap,
+        words: &words,
+    };
+    read_call(&args, name).map(Some)
 }

@@ -20,6 +20,7 @@ pub enum Mistake {
     OutOfMemory,
 }
 
+// Two impls, since `?` meets two types: this one from `collect`, and `AllocFailed` from `push`.
 impl From<AllocError> for Mistake {
     ghost from_gives = { λ _ r. r ≡ OutOfMemory };
 
@@ -36,6 +37,7 @@ impl<T: Drop> From<AllocFailed<T>> for Mistake {
     }
 }
 
+// By hand, since a derive promises no `output`.
 impl fmt::Display for Mistake {
     ghost output = { λ m. Some (phrase m) };
 

@@ -1,55 +1,28 @@
-//! What one word stands for: a number, bytes, a pair of numbers. `k` is the word's number, for the mistake.
-ghost use Rattle.std.specs.Prelude.{◌≡◌, ◌%◌, ◌^◌, ◌<◌, ◌≤◌, length, IfOk, vec_items, MatchOption};
+//! What one word stands for: a number, bytes, a pair of numbers.
+ghost use Rattle.std.specs.Prelude.{◌≡◌, ◌%◌, ◌<◌, ◌==◌, length, position, IfOk, vec_items};
 ghost use Rattle.std.specs.Option.{unwrap_or};
-ghost use Rattle.std.specs.List.{prefix_len};
 ghost use Rattle.call_list.specs.Line.{every};
-ghost use Rattle.call_list.specs.Values.{is_digit, is_hex, value_of, number_of, hex_digit, byte_of, bytes_of, hex_of, no_comma, pair_of, Reads};
+ghost use Rattle.call_list.specs.Values.{is_digit, is_hex, number_of, hex_digit, byte_of, bytes_of, hex_of, pair_of, Reads};
 
 use crate::calls::Span;
 use crate::mistakes::Mistake;
 use std::alloc::{AllocError, Global};
+use std::str::from_utf8;
 
-fn is_digit(b: u8) -> bool
-    ensures { result ≡ is_digit b }
-{
-    b >= b'0' && b <= b'9'
+/// A word of a line, with its number in the line, for the mistake.
+#[derive(Clone, Copy)]
+pub struct Word<'a> {
+    pub bytes: &'a [u8],
+    pub index: usize,
 }
 
-fn all_digits(word: &[u8]) -> bool
-    ensures { result ≡ every is_digit word.now }
+fn all_digits(bytes: &[u8]) -> bool
+    ensures { result ≡ every is_digit bytes.now }
 {
-    for b in word {
-        if !is_digit(*b) {
-            return false;
-        }
-    }
-    true
+    bytes.iter().all(|b| b.is_ascii_digit())
 }
 
-/// The value of a word of digits, where it fits.
-fn digits_value(word: &[u8]) -> Option<u64>
-    ensures { MatchOption result (2 ^ 64 ≤ value_of word.now) (λ n. n ≡ value_of word.now) }
-{
-    let mut n: u64 = 0;
-    for b in word {
-        let tens = n.checked_mul(10)?;
-        n = tens.checked_add(u64::from(b.saturating_sub(b'0')))?;
-    }
-    Some(n)
-}
-
-pub fn number(word: &[u8], k: usize) -> Result<u64, Mistake>
-    ensures { result ≡ number_of k word.now }
-{
-    if word.is_empty() || !all_digits(word) {
-        return Err(Mistake::NotANumber(k));
-    }
-    match digits_value(word) {
-        Some(n) => Ok(n),
-        None => Err(Mistake::NumberTooLarge(k)),
-    }
-}
-
+// The crate `hex` takes capitals too: its `decode` would need this test before it, and its errors turned into mistakes.
 fn hex_digit(b: u8) -> Option<u8>
     ensures value { result ≡ hex_digit b }
     ensures small { unwrap_or result 0 < 16 }
@@ -61,15 +34,10 @@ fn hex_digit(b: u8) -> Option<u8>
     }
 }
 
-fn all_hex(word: &[u8]) -> bool
-    ensures { result ≡ every is_hex word.now }
+fn all_hex(bytes: &[u8]) -> bool
+    ensures { result ≡ every is_hex bytes.now }
 {
-    for b in word {
-        if hex_digit(*b).is_none() {
-            return false;
-        }
-    }
-    true
+    bytes.iter().all(|b| hex_digit(*b).is_some())
 }
 
 fn hex_byte(high: u8, low: u8) -> u8
@@ -80,56 +48,72 @@ fn hex_byte(high: u8, low: u8) -> u8
 
 /// The bytes of an even number of digits.
 fn hex_bytes(heap: Global, digits: &[u8]) -> Result<Vec<u8>, AllocError>
-    requires { length digits.now % 2 ≡ 0 }
     ensures { IfOk result (λ v. v.items ≡ bytes_of digits.now) }
 {
-    let mut bytes = Vec::new(heap);
-    let mut i = 0;
-    while i < digits.len() {
-        bytes.push(hex_byte(digits[i], digits[i + 1]))?;
-        i += 2;
-    }
-    Ok(bytes)
+    let (pairs, _) = digits.as_chunks::<2>();
+    pairs
+        .iter()
+        .map(|[high, low]| hex_byte(*high, *low))
+        .collect(heap)
 }
 
-/// The bytes of a word of digits; `-` stands for none.
-pub fn hex(heap: Global, word: &[u8], k: usize) -> Result<Vec<u8>, Mistake>
-    ensures { Reads vec_items result (hex_of k word.now) }
+/// The place of the first comma.
+fn comma(bytes: &[u8]) -> Option<usize>
+    ensures { result ≡ position (λ b. b == 44) bytes.now }
 {
-    if word == b"-".as_slice() {
-        return Ok(Vec::new(heap));
-    }
-    if !all_hex(word) {
-        return Err(Mistake::NotHexadecimal(k));
-    }
-    if word.len() % 2 != 0 {
-        return Err(Mistake::OddDigits(k));
-    }
-    Ok(hex_bytes(heap, word)?)
+    bytes.iter().position(|b| *b == b',')
 }
 
-const COMMA: u8 = b',';
-
-/// The place of the first comma, or the length where there is none.
-fn comma(word: &[u8]) -> usize
-    ensures { result ≡ prefix_len no_comma word.now }
-{
-    let mut i = 0;
-    while i < word.len() && word[i] != COMMA {
-        i += 1;
+impl Word<'_> {
+    /// The value of decimal digits.
+    #[tactic(auto, using(crate::proofs::Digits::none_of_no_text))]
+    pub fn number(&self) -> Result<u64, Mistake>
+        ensures { result ≡ number_of self.now.index self.now.bytes.now }
+    {
+        let index = self.index;
+        match from_utf8(self.bytes) {
+            Ok(digits) if !digits.is_empty() && all_digits(self.bytes) => {
+                digits.parse().map_err(|_| Mistake::NumberTooLarge(index))
+            }
+            _ => Err(Mistake::NotANumber(index)),
+        }
     }
-    i
-}
 
-/// `START,LENGTH`, cut at the first comma.
-pub fn pair(word: &[u8], k: usize) -> Result<Span, Mistake>
-    ensures { result ≡ pair_of k word.now }
-{
-    let at = comma(word);
-    if at >= word.len() {
-        return Err(Mistake::NotAPair(k));
+    /// The bytes of a word of digits; `-` stands for none.
+    pub fn hex(&self, heap: Global) -> Result<Vec<u8>, Mistake>
+        ensures { Reads vec_items result (hex_of self.now.index self.now.bytes.now) }
+    {
+        if self.bytes == b"-".as_slice() {
+            return Ok(Vec::new(heap));
+        }
+        if !all_hex(self.bytes) {
+            return Err(Mistake::NotHexadecimal(self.index));
+        }
+        if self.bytes.len() % 2 != 0 {
+            return Err(Mistake::OddDigits(self.index));
+        }
+        Ok(hex_bytes(heap, self.bytes)?)
     }
-    let start = number(&word[0..at], k)?;
-    let len = number(&word[at + 1..word.len()], k)?;
-    Ok(Span { start, len })
+
+    /// `START,LENGTH`, cut at the first comma.
+    pub fn pair(&self) -> Result<Span, Mistake>
+        ensures { result ≡ pair_of self.now.index self.now.bytes.now }
+    {
+        let index = self.index;
+        let Some(at) = comma(self.bytes) else {
+            return Err(Mistake::NotAPair(index));
+        };
+        let start = Word {
+            bytes: &self.bytes[..at],
+            index,
+        };
+        let len = Word {
+            bytes: &self.bytes[at + 1..],
+            index,
+        };
+        Ok(Span {
+            start: start.number()?,
+            len: len.number()?,
+        })
+    }
 }

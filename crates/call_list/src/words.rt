@@ -1,23 +1,13 @@
 //! Cuts a line into its words.
-ghost use Rattle.std.specs.Prelude.{◌≡◌, ◌++◌, IfOk, OnOk};
-ghost use Rattle.call_list.specs.Line.{blank, ended, words_of, Words, contents};
+ghost use Rattle.std.specs.Prelude.{◌≡◌, IfOk};
+ghost use Rattle.call_list.specs.Line.{blank, words_of, Words, contents};
 
 use std::alloc::{AllocError, Global};
 
 fn is_blank(b: u8) -> bool
     ensures { result ≡ blank b }
 {
-    b == b' ' || b == b'\t' || b == b'\r'
-}
-
-/// Adds a word that has ended, unless it has no bytes.
-fn add_word<'a>(words: &mut Vec<&'a [u8]>, word: &'a [u8]) -> Result<(), AllocError>
-    ensures { OnOk result (contents words.new.items ≡ contents words.old.items ++ ended word.now) }
-{
-    if !word.is_empty() {
-        words.push(word)?;
-    }
-    Ok(())
+    matches!(b, b' ' | b'\t' | b'\r')
 }
 
 /// The words of a line.
@@ -25,14 +15,7 @@ pub fn split_words<'a>(heap: Global, line: &'a [u8]) -> Result<Vec<&'a [u8]>, Al
     ensures value { IfOk result (λ words. contents words.items ≡ words_of line.now) }
     ensures cut { IfOk result (λ words. Words line.now (contents words.items)) }
 {
-    let mut words = Vec::new(heap);
-    let mut start = 0;
-    for i in 0..line.len() {
-        if is_blank(line[i]) {
-            add_word(&mut words, &line[start..i])?;
-            start = i + 1;
-        }
-    }
-    add_word(&mut words, &line[start..line.len()])?;
-    Ok(words)
+    line.split(|b| is_blank(*b))
+        .filter(|word| !word.is_empty())
+        .collect(heap)
 }

@@ -1,14 +1,11 @@
-use Rattle.std.proofs.Common.{[], ◌∷◌, ◌++◌, vec_items, ap, ◌∙◌, arith}
-use Rattle.call_list.proofs.Scans.{bytes_more, bytes_all}
+use Rattle.std.proofs.Common.{sym, length, ◌/◌, get_or, rules}
+use Rattle.std.specs.Simd.{first_chunks}
+use Rattle.std.proofs.lemmas.Iterator.{items_from_collect, YieldsList-from_map, YieldsList-from_slice}
+use Rattle.call_list.specs.Values.{byte_of}
+use Rattle.call_list.proofs.Digits.{by_two}
 use Rattle.call_list.proofs.values.hex_bytes.Goals as goal
 
-pub loop-i-preserved : goal.loop-i-preserved
-loop-i-preserved c = (
-  omega arith,
-  omega arith,
-  bytes_more _ _ c.args.digits.now c.loop-i.i c.loop-i.invariant.2 _ (omega arith)
-      (c.in_ok-push.ensures.items ∙ ap (λ b. vec_items c.loop-i.bytes ++ (b ∷ [])) c.hex_byte.ensures),
-)
-
 pub returns : goal.returns
-returns c = bytes_all _ _ _ _ c.loop-i.invariant.2 c.loop-i-test.false
+returns c =
+    let made = items_from_collect _ c.collect.ensures.ran (YieldsList-from_map _ (λ p. byte_of (get_or p 0 0) (get_or p 1 0)) (YieldsList-from_slice (first_chunks 2 (length c.args.digits.now / 2) c.args.digits.now) cc) c.map.ensures.closure (λ x r q k. search rules)) in
+    rw (sym (by_two c.args.digits.now)) made

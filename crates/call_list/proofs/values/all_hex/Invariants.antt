@@ -1,7 +1,0 @@
-use Rattle.std.proofs.Common.{◌≡◌, drop}
-use Rattle.call_list.specs.Line.{every}
-use Rattle.call_list.specs.Values.{is_hex}
-use Rattle.call_list.proofs.values.all_hex.Given as goal
-
-abbrev pub invariant-loop-b : goal.invariant-loop-b
-invariant-loop-b l = every is_hex (drop l.b-index l.word) ≡ every is_hex l.word
