@@ -3,7 +3,7 @@ use Rattle.std.specs.Prelude.{◌≡◌, ℕ, ◌+◌, ◌<◌, ◌≤◌, Bool,
 use Rattle.blob.specs.Bytes.{part}
 use Rattle.buffer.specs.declared.pieces.Piece.{Piece}
 use Rattle.buffer.specs.declared.error.Error.{Error}
-use Rattle.buffer.specs.declared.error.Error.TheVariants.{BadCapacity, TooManyPieces, BadPiece, OffsetOverflow, NoRoom, BlobInsufficientLength, Closed, DeviceFault}
+use Rattle.buffer.specs.declared.error.Error.TheVariants.{TooManyPieces, BadPiece}
 
 -- A piece lies inside an area of n bytes and has at most 65,536.
 abbrev pub inside : ℕ → Piece → Bool

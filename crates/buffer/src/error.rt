@@ -6,7 +6,7 @@ ghost use Rattle.buffer.specs.Numbers.{step_number, number, text};
 use std::fmt;
 
 // What the writer was doing when the device failed.
-#[derive(Clone, Copy)]
+#[derive(Clone, Copy, Debug, PartialEq, Eq)]
 pub enum Step {
     // Writing the drained tip.
     Flush = 1,
@@ -29,14 +29,14 @@ impl Step {
 
 // A failure of the device, told whole: its code, the step, and the place. The place is the first byte of a
 // write or a read, the new length of a resize, and 0 for a sync and a wait.
-#[derive(Clone, Copy)]
+#[derive(Clone, Copy, Debug, PartialEq, Eq)]
 pub struct Fault {
     pub code: u8,
     pub step: Step,
     pub place: u64,
 }
 
-#[derive(Clone, Copy)]
+#[derive(Clone, Copy, Debug, PartialEq, Eq)]
 pub enum Error {
     // A capacity outside 1 to 4,096.
     BadCapacity,

@@ -134,6 +134,7 @@ fn read_call(args: &Args, name: &[u8]) -> Result<Call, Mistake>
     }
 }
 
+/// A pattern on the first byte, which a test by `==` would not make plainer.
 fn is_comment(line: &[u8]) -> bool
     ensures { result ≡ comment line.now }
 {

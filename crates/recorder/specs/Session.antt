@@ -1,10 +1,9 @@
--- What each call of a list answers and leaves, over a session whose writer, if it has one, is as its making
--- and its calls leave it.
+-- What each call of a list answers and leaves.
 use Rattle.std.specs.Prelude.{◌≡◌, ℕ, ◌*◌, min, Bool, ◌≢◌, ◌⊎◌, List, map, length, take, replicate, Ok, Err, vec_items, Result}
 use Rattle.std.specs.Option.{unwrap_or}
-use Rattle.std.specs.Result.{result_map_both}
 use Rattle.blob.specs.Bytes.{laid}
-use Rattle.blobs.specs.contracts.flat.calls.FlatBlobBlob.TheImpl.{ghosts}
+use Rattle.blobs.specs.contracts.flat.calls.FlatBlobBlob.TheImpl as impl_blob
+use Rattle.blobs.specs.contracts.flat.calls.FlatBlobReadable.TheImpl as impl_readable
 use Rattle.blobs.specs.declared.flat.FlatBlob.{FlatBlob}
 use Rattle.blobs.specs.declared.flat.StartError.{StartError}
 use Rattle.blobs.specs.Flat.{Starts, fresh, disk_of}
@@ -15,22 +14,23 @@ use Rattle.buffer.specs.Tip.{buffered}
 use Rattle.writer.specs.declared.sync_state.SyncState.{SyncState}
 use Rattle.writer.specs.declared.write.Write.{Write}
 use Rattle.writer.specs.Steps as steps
-use Rattle.writer.specs.Steps.{State, Consistent, ChecksCapacity, made}
+use Rattle.writer.specs.Steps.{State, ChecksCapacity, made}
 use Rattle.writer.specs.View.{view}
 use Rattle.call_list.specs.Calls.{PlainCall, flat, writer, write, try_write, resize, sync, read, size, needs_sync, blob, boxes}
 use Rattle.call_list.specs.declared.calls.Span.{Span}
 use Rattle.recorder.specs.declared.answer.Answer.{Answer}
-use Rattle.recorder.specs.declared.answer.Answer.TheVariants.{Accepted, Bytes, YesNo, Number, Images, Boxes, Refused, BadStart}
+use Rattle.recorder.specs.declared.answer.Answer.TheVariants.{Accepted, Bytes, YesNo, Number, Images, Boxes}
 use Rattle.recorder.specs.declared.answer.Drawing.{Drawing}
+use Rattle.recorder.specs.declared.answer.Failure.{Failure}
+use Rattle.recorder.specs.declared.answer.Failure.TheVariants as failure
 use Rattle.recorder.specs.declared.answer.Problem.{Problem}
 use Rattle.recorder.specs.declared.answer.Problem.TheVariants.{NoBlob, NoWriter, BlobHeld, UnequalImages, OutOfMemory}
 use Rattle.recorder.specs.declared.session.Session.{Session}
 use Rattle.recorder.specs.declared.session.Session.TheVariants.{Empty, Free, Writing}
 
-abbrev pub Sane : Session → Type 0
-Sane Empty = Unit {0}
-Sane (Free b) = Unit {0}
-Sane (Writing w) = Consistent (view ghosts.disk w)
+-- A writer over a flat blob.
+abbrev pub FlatWrite : Type 0
+FlatWrite = Write FlatBlob impl_blob.ghosts impl_readable.ghosts
 
 -- An area with as much of the content and of the durable image as fits laid into each half.
 abbrev pub halves : List ℕ → ℕ → List ℕ → List ℕ → List ℕ
@@ -56,20 +56,22 @@ pub data Told : Type 0 where
   bad_start : StartError → Told
 
 abbrev pub drawn : Drawing → Told
-drawn d = drawing d.offset (vec_items d.tip) (vec_items d.content) (vec_items d.durable) d.sync_state d.closed
+drawn d = drawing d.offset (vec_items d.tip) (vec_items d.images.content) (vec_items d.images.durable) d.sync_state d.closed
 
 abbrev pub told : Answer → Told
 told Accepted = accepted
 told (Bytes v) = bytes (vec_items v)
 told (YesNo b) = yes_no b
 told (Number n) = number n
-told (Images content durable) = images (vec_items content) (vec_items durable)
+told (Images i) = images (vec_items i.content) (vec_items i.durable)
 told (Boxes d) = drawn d
-told (Refused e) = refused e
-told (BadStart e) = bad_start e
 
-abbrev pub said : Result Answer Problem → Result Told Problem
-said r = result_map_both told (λ p. p) r
+-- What a call tells: its answer, or why it was refused. A line that was not performed tells nothing.
+abbrev pub said : Result Answer Failure → Result Told Problem
+said (Ok a) = Ok (told a)
+said (Err (failure.Refused e)) = Ok (refused e)
+said (Err (failure.BadStart e)) = Ok (bad_start e)
+said (Err (failure.Problem p)) = Err p
 
 -- How a writer's result and a check of a starting length are told.
 abbrev pub result_told : Result Unit Error → Told
@@ -130,7 +132,7 @@ Copies boxes = Unit {0}
 abbrev pub OnWriter : PlainCall → Session → Result Told Problem → Session → Type 0
 OnWriter call Empty r t = (r ≡ Err NoWriter) × (t ≡ Empty)
 OnWriter call (Free b) r t = (r ≡ Err NoWriter) × (t ≡ Free b)
-OnWriter call (Writing w) (Ok a) t = (w' : Write FlatBlob) × (t ≡ Writing w') × Does call (view ghosts.disk w) a (view ghosts.disk w')
+OnWriter call (Writing w) (Ok a) t = (w' : FlatWrite) × (t ≡ Writing w') × Does call (view w) a (view w')
 OnWriter call (Writing w) (Err p) t = (p ≡ OutOfMemory) × Copies call × (t ≡ Writing w)
 
 -- A new flat blob takes the place of whatever was there, also where the check refuses its start. Images of
@@ -147,7 +149,7 @@ MakesFlat limit content durable s (Err p) t =
 abbrev pub MakesWriter : ℕ → Session → Result Told Problem → Session → Type 0
 MakesWriter n Empty r t = (r ≡ Err NoBlob) × (t ≡ Empty)
 MakesWriter n (Free b) r t =
-    ((w : Write FlatBlob) × (t ≡ Writing w) × (view ghosts.disk w ≡ made (disk_of (shape b)) n))
+    ((w : FlatWrite) × (t ≡ Writing w) × (view w ≡ made (disk_of (shape b)) n))
     × ((q : Result Unit Error) × (r ≡ Ok (result_told q)) × ChecksCapacity n q)
 MakesWriter n (Writing w) r t = (r ≡ Err BlobHeld) × (t ≡ Writing w)
 
@@ -155,18 +157,11 @@ MakesWriter n (Writing w) r t = (r ≡ Err BlobHeld) × (t ≡ Writing w)
 abbrev pub Shows : Session → Result Told Problem → Type 0
 Shows Empty r = r ≡ Err NoBlob
 Shows (Free b) r = (r ≡ Ok (images_of b)) ⊎ (r ≡ Err OutOfMemory)
-Shows (Writing w) r = (r ≡ Ok (images_of w.blob)) ⊎ (r ≡ Err OutOfMemory)
+Shows (Writing w) r = (r ≡ Ok (images_of w.boxes.blob)) ⊎ (r ≡ Err OutOfMemory)
 
 -- What a call tells, and the session before and after it.
 abbrev pub Performs : Session → PlainCall → Result Told Problem → Session → Type 0
 Performs s (flat limit content durable) r t = MakesFlat limit content (unwrap_or durable content) s r t
 Performs s (writer n) r t = MakesWriter n s r t
 Performs s blob r t = Shows s r × (t ≡ s)
-Performs s (write place area spans) r t = OnWriter (write place area spans) s r t
-Performs s (try_write place run) r t = OnWriter (try_write place run) s r t
-Performs s (resize n) r t = OnWriter (resize n) s r t
-Performs s sync r t = OnWriter sync s r t
-Performs s (read place n) r t = OnWriter (read place n) s r t
-Performs s size r t = OnWriter size s r t
-Performs s needs_sync r t = OnWriter needs_sync s r t
-Performs s boxes r t = OnWriter boxes s r t
+Performs s call r t = OnWriter call s r t

@@ -1,19 +1,33 @@
 // What is printed for a call.
+ghost use Rattle.std.specs.Prelude.{◌≡◌, Some};
+ghost use Rattle.recorder.specs.Problems.{words};
+ghost use Rattle.recorder.specs.declared.answer.Failure.TheVariants as failure;
+ghost use Rattle.recorder.specs.declared.answer.Failure.TheVariants.{Refused, BadStart};
+ghost use Rattle.recorder.specs.declared.answer.Problem.TheVariants.{Line, OutOfMemory};
+
 use crate::hex::Hex;
 use blobs::flat::StartError;
 use buffer::error::Error;
 use call_list::Mistake;
+use std::alloc::AllocError;
 use std::fmt;
 use writer::sync_state::SyncState;
 
-// The tip, the blob and the durable image, and what is known of durability.
+// The two images of a blob: what can be read of it, and what a power cut would leave.
+#[derive(Drop)]
+pub struct Images<B> {
+    pub content: B,
+    pub durable: B,
+}
+
+// The tip and the images, and what is known of durability.
 #[derive(Drop)]
 pub struct Drawing {
     pub offset: u64,
     pub tip: Vec<u8>,
-    pub content: Vec<u8>,
-    pub durable: Vec<u8>,
+    pub images: Images<Vec<u8>>,
     pub sync_state: SyncState,
+    // A flag beside the state: a closed writer still has the state that it was closed in, and both are told.
     pub closed: bool,
 }
 
@@ -23,10 +37,8 @@ pub enum Answer {
     Bytes(Vec<u8>),
     YesNo(bool),
     Number(u64),
-    Images { content: Vec<u8>, durable: Vec<u8> },
+    Images(Images<Vec<u8>>),
     Boxes(Drawing),
-    Refused(Error),
-    BadStart(StartError),
 }
 
 // Why a line was not performed.
@@ -40,7 +52,58 @@ pub enum Problem {
     OutOfMemory,
 }
 
+// Why a call has no answer: the writer or the blob refuses it, or the line was not performed.
+#[derive(Clone, Copy)]
+pub enum Failure {
+    Refused(Error),
+    BadStart(StartError),
+    Problem(Problem),
+}
+
+impl From<Error> for Failure {
+    ghost from_gives = { λ error r. r ≡ Refused error };
+
+    fn from(error: Error) -> Failure {
+        Failure::Refused(error)
+    }
+}
+
+impl From<StartError> for Failure {
+    ghost from_gives = { λ error r. r ≡ BadStart error };
+
+    fn from(error: StartError) -> Failure {
+        Failure::BadStart(error)
+    }
+}
+
+impl From<Problem> for Failure {
+    ghost from_gives = { λ problem r. r ≡ failure.Problem problem };
+
+    fn from(problem: Problem) -> Failure {
+        Failure::Problem(problem)
+    }
+}
+
+impl From<Mistake> for Failure {
+    ghost from_gives = { λ mistake r. r ≡ failure.Problem (Line mistake) };
+
+    fn from(mistake: Mistake) -> Failure {
+        Failure::Problem(Problem::Line(mistake))
+    }
+}
+
+impl From<AllocError> for Failure {
+    ghost from_gives = { λ _ r. r ≡ failure.Problem OutOfMemory };
+
+    fn from(_e: AllocError) -> Failure {
+        Failure::Problem(Problem::OutOfMemory)
+    }
+}
+
+// Written out, since the derive of `thiserror` promises no text.
 impl fmt::Display for Problem {
+    ghost output = { λ p. Some (words p) };
+
     fn fmt<W: fmt::Write>(&self, f: &mut fmt::Formatter<W>) -> fmt::Result {
         match self {
             Problem::Line(mistake) => write!(f, "{mistake}"),
@@ -56,23 +119,21 @@ impl fmt::Display for Problem {
     }
 }
 
+// By hand, as `Answer`: a derive would print the names of the fields.
 impl fmt::Display for Drawing {
     fn fmt<W: fmt::Write>(&self, f: &mut fmt::Formatter<W>) -> fmt::Result {
-        let offset = self.offset;
-        let tip = Hex(self.tip.as_slice());
-        let content = Hex(self.content.as_slice());
-        let durable = Hex(self.durable.as_slice());
+        let Images { content, durable } = &self.images;
+        write!(f, "[tip at {}: {}] -> ", self.offset, Hex(&self.tip))?;
         write!(
             f,
-            "[tip at {offset}: {tip}] -> [blob: {content}] -> [durable: {durable}] "
+            "[blob: {}] -> [durable: {}] ",
+            Hex(content),
+            Hex(durable)
         )?;
         if self.closed {
-            return write!(f, "Closed");
-        }
-        match self.sync_state {
-            SyncState::Clean => write!(f, "Clean"),
-            SyncState::Dirty => write!(f, "Dirty"),
-            SyncState::Pending => write!(f, "Pending"),
+            write!(f, "Closed")
+        } else {
+            write!(f, "{:?}", self.sync_state)
         }
     }
 }
@@ -81,21 +142,17 @@ impl fmt::Display for Answer {
     fn fmt<W: fmt::Write>(&self, f: &mut fmt::Formatter<W>) -> fmt::Result {
         match self {
             Answer::Accepted => write!(f, "ok"),
-            Answer::Bytes(bytes) => {
-                let bytes = Hex(bytes.as_slice());
-                write!(f, "ok {bytes}")
-            }
+            Answer::Bytes(bytes) => write!(f, "ok {}", Hex(bytes)),
             Answer::YesNo(true) => write!(f, "yes"),
             Answer::YesNo(false) => write!(f, "no"),
             Answer::Number(n) => write!(f, "{n}"),
-            Answer::Images { content, durable } => {
-                let content = Hex(content.as_slice());
-                let durable = Hex(durable.as_slice());
-                write!(f, "content {content} durable {durable}")
-            }
+            Answer::Images(Images { content, durable }) => write!(
+                f,
+                "content {} durable {}",
+                Hex(content),
+                Hex(durable)
+            ),
             Answer::Boxes(drawing) => write!(f, "{drawing}"),
-            Answer::Refused(error) => write!(f, "refused {error}"),
-            Answer::BadStart(error) => write!(f, "refused {error}"),
         }
     }
 }

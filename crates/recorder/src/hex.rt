@@ -1,7 +1,7 @@
 // Bytes as they are written in call lists and answers.
 use std::fmt;
 
-// Lowercase hexadecimal digits, or `-` for no bytes.
+// Lowercase hexadecimal digits, or `-` for no bytes, which no derive prints.
 #[derive(Clone, Copy)]
 pub struct Hex<'a>(pub &'a [u8]);
 
@@ -11,8 +11,7 @@ impl fmt::Display for Hex<'_> {
             return write!(f, "-");
         }
         for byte in self.0 {
-            let b = *byte;
-            write!(f, "{b:02x}")?;
+            write!(f, "{byte:02x}")?;
         }
         Ok(())
     }

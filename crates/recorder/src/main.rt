@@ -1,10 +1,9 @@
 // Performs a call list on a writer over a flat blob, and prints one line for each call.
 #![tactic(auto)]
 
-ghost use Rattle.std.specs.Prelude.{◌≡◌, ℕ, ◌<◌, ◌≤◌, length, ◌≢◌, slice_index};
-ghost use Rattle.recorder.specs.Session.{Sane};
+ghost use Rattle.std.specs.Prelude.{◌≡◌};
 
-use answer::Problem;
+use answer::{Answer, Failure};
 use call_list::read_line;
 use session::Session;
 use std::alloc::Global;
@@ -17,9 +16,7 @@ mod session;
 
 // The call list: the file that the argument names, or standard input.
 fn input(rt: &HostRuntime) -> anyhow::Result<Vec<u8>> {
-    let mut args = env::args(rt)?;
-    let _program = args.next();
-    match args.next() {
+    match env::args(rt)?.nth(1) {
         Some(path) => Ok(fs::read(rt, path.as_str())?),
         None => {
             let mut bytes = Vec::new(rt.alloc());
@@ -29,49 +26,37 @@ fn input(rt: &HostRuntime) -> anyhow::Result<Vec<u8>> {
     }
 }
 
-// Performs one line of the list and prints what it answers. A line to be skipped prints nothing.
-fn perform(rt: &HostRuntime, session: &mut Session, number: u64, line: &[u8]) -> anyhow::Result<()>
-    requires { Sane session.old }
-    ensures { Sane session.new }
-{
-    let answer = match read_line(rt.alloc(), line) {
-        Ok(None) => return Ok(()),
-        Ok(Some(call)) => session.perform(rt.alloc(), &call),
-        Err(mistake) => Err(Problem::Line(mistake)),
+// What a line of the list answers. A line to be skipped answers nothing.
+fn answer_of(heap: Global, session: &mut Session, line: &[u8]) -> Result<Option<Answer>, Failure> {
+    let Some(call) = read_line(heap, line)? else {
+        return Ok(None);
     };
-    match answer {
-        Ok(answer) => println!(rt; "{answer}")?,
-        Err(problem) => println!(rt; "line {number}: {problem}")?,
+    Ok(Some(session.perform(heap, &call)?))
+}
+
+// Performs a line of the list and prints what it answers.
+fn perform(
+    rt: &HostRuntime,
+    session: &mut Session,
+    number: u64,
+    line: &[u8],
+) -> anyhow::Result<()> {
+    match answer_of(rt.alloc(), session, line) {
+        Ok(None) => {}
+        Ok(Some(answer)) => println!(rt; "{answer}")?,
+        Err(Failure::Refused(error)) => println!(rt; "refused {error}")?,
+        Err(Failure::BadStart(error)) => println!(rt; "refused {error}")?,
+        Err(Failure::Problem(problem)) => println!(rt; "line {number}: {problem}")?,
     }
     Ok(())
 }
 
-// Where the line that begins at `start` ends: at the next newline, or at the end of the text.
-fn line_end(text: &[u8], start: usize) -> usize
-    requires { start ≤ length text.now }
-    ensures within { (start ≤ result) × (result ≤ length text.now) }
-    ensures before { (k : ℕ) → start ≤ k → k < result → slice_index text.now k ≢ 10 }
-    ensures found { result < length text.now → slice_index text.now result ≡ 10 }
-{
-    for i in start..text.len() {
-        if text[i] == b'\n' {
-            return i;
-        }
-    }
-    text.len()
-}
-
+// The text behind the last newline is a line too; where nothing stands there it is skipped.
 fn run(rt: &HostRuntime) -> anyhow::Result<()> {
     let text = input(rt)?;
-    let text = text.as_slice();
     let mut session = Session::Empty;
-    let mut number = 0u64;
-    let mut start = 0;
-    while start < text.len() {
-        let end = line_end(text, start);
-        number = number.saturating_add(1);
-        perform(rt, &mut session, number, &text[start..end])?;
-        start = end + 1;
+    for (i, line) in text.as_slice().split(|byte| *byte == b'\n').enumerate() {
+        perform(rt, &mut session, i as u64 + 1, line)?;
     }
     Ok(())
 }

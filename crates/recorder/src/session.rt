@@ -1,16 +1,16 @@
 // What the calls of a list are performed on.
-ghost use Rattle.blobs.specs.contracts.flat.calls.FlatBlobBlob.TheImpl.{ghosts};
-ghost use Rattle.writer.specs.Steps.{Consistent};
 ghost use Rattle.writer.specs.View.{view};
-ghost use Rattle.std.specs.Prelude.{◌≡◌, ◌*◌, length, replicate, IfOk, MatchResult};
+ghost use Rattle.blob.specs.Bytes.{laid};
+ghost use Rattle.std.specs.Prelude.{◌≡◌, ◌+◌, ◌*◌, ◌≤◌, min, length, take, IfOk, MatchResult};
 ghost use Rattle.call_list.specs.Calls.{plain};
-ghost use Rattle.recorder.specs.Session.{Sane, halves, area_of, pieces, told, said, result_told, start_told, drawn, drawing_of, images_of, ReadsBack, Does, Copies, MakesFlat, MakesWriter, Shows, Performs};
+ghost use Rattle.recorder.specs.declared.answer.Failure.TheVariants as failure;
+ghost use Rattle.recorder.specs.declared.answer.Problem.TheVariants.{OutOfMemory};
+ghost use Rattle.recorder.specs.Session.{halves, area_of, pieces, told, said, drawn, drawing_of, images, images_of, ReadsBack, Does, Copies, MakesFlat, MakesWriter, Shows, Performs};
 
-use crate::answer::{Answer, Drawing, Problem};
+use crate::answer::{Answer, Drawing, Failure, Images, Problem};
 use blob::area::put;
 use blob::{Blob, Readable};
-use blobs::flat::{FlatBlob, StartError};
-use buffer::error::Error;
+use blobs::flat::FlatBlob;
 use buffer::pieces::{Piece, PieceList};
 use call_list::{Call, Span};
 use std::alloc::{AllocError, Global};
@@ -25,93 +25,77 @@ pub enum Session {
     Writing(Write<FlatBlob>),
 }
 
-fn answered(res: Result<(), Error>) -> Answer
-    ensures { told result ≡ result_told res }
+// Puts as many of the bytes as fit into the room that begins at `start`.
+fn put_fitting(area: &mut [u8], start: usize, room: usize, bytes: &[u8])
+    requires { start + room ≤ length area.old }
+    ensures { area.new ≡ laid area.old start (take (min (length bytes.now) room) bytes.now) }
 {
-    match res {
-        Ok(()) => Answer::Accepted,
-        Err(error) => Answer::Refused(error),
+    put(area, start, &bytes[..bytes.len().min(room)]);
+}
+
+impl<'a> Images<&'a [u8]> {
+    // Those of this blob.
+    fn of(blob: &'a FlatBlob) -> Images<&'a [u8]>
+        ensures { images result.content.now result.durable.now ≡ images_of blob.now }
+    {
+        Images {
+            content: blob.content(),
+            durable: blob.durable(),
+        }
+    }
+
+    fn copied(&self, heap: Global) -> Result<Images<Vec<u8>>, AllocError>
+        ensures { IfOk result (λ i. images i.content.items i.durable.items ≡ images self.now.content.now self.now.durable.now) }
+    {
+        Ok(Images {
+            content: self.content.to_vec(heap)?,
+            durable: self.durable.to_vec(heap)?,
+        })
+    }
+
+    // Puts the content at the start of the area and the durable image in its middle.
+    fn lay(&self, area: &mut [u8], half: usize)
+        requires { length area.old ≡ half * 2 }
+        ensures { area.new ≡ halves area.old half self.now.content.now self.now.durable.now }
+    {
+        put_fitting(area, 0, half, self.content);
+        put_fitting(area, half, half, self.durable);
+    }
+
+    // The area of a flat blob with this limit and these images.
+    fn area(&self, heap: Global, limit: u64) -> Result<Vec<u8>, Failure>
+        ensures { MatchResult result (λ area. area.items ≡ area_of limit self.now.content.now self.now.durable.now) (λ e. e ≡ failure.Problem OutOfMemory) }
+    {
+        let size = limit.checked_mul(2).ok_or(Problem::OutOfMemory)?;
+        let mut area = vec![in heap; 0; size as usize]?;
+        self.lay(&mut area, limit as usize);
+        Ok(area)
     }
 }
 
-fn started(res: Result<(), StartError>) -> Answer
-    ensures { told result ≡ start_told res }
-{
-    match res {
-        Ok(()) => Answer::Accepted,
-        Err(error) => Answer::BadStart(error),
-    }
-}
-
-// Puts the content at the start of the area and the durable image in its middle, as much of each as fits.
-fn lay_images(area: &mut [u8], half: usize, content: &[u8], durable: &[u8])
-    requires { length area.old ≡ half * 2 }
-    ensures { area.new ≡ halves area.old half content.now durable.now }
-{
-    let n = content.len().min(half);
-    put(area, 0, &content[0..n]);
-    let n = durable.len().min(half);
-    put(area, half, &durable[0..n]);
-}
-
-// The area of a flat blob with this limit and these images.
-fn flat_area(
-    heap: Global,
-    limit: u64,
-    content: &[u8],
-    durable: &[u8],
-) -> Result<Vec<u8>, AllocError>
-    ensures { IfOk result (λ area. area.items ≡ area_of limit content.now durable.now) }
-{
-    let Some(size) = limit.checked_mul(2) else {
-        return Err(AllocError);
-    };
-    let mut area = vec![in heap; 0; size as usize]?;
-    lay_images(&mut area, limit as usize, content, durable);
-    Ok(area)
-}
-
+// A span has the 64-bit numbers of a line, and a piece is a part of an area in memory. Neither crate knows the
+// other's type, so no `From` can stand for this.
 fn pieces_of(heap: Global, spans: &[Span]) -> Result<Vec<Piece>, AllocError>
     ensures { IfOk result (λ v. v.items ≡ pieces spans.now) }
 {
-    let mut pieces = Vec::new(heap);
-    for span in spans {
-        pieces.push(Piece {
+    spans
+        .iter()
+        .map(|span| Piece {
             start: span.start as usize,
             len: span.len as usize,
-        })?;
-    }
-    Ok(pieces)
-}
-
-// A copy of the bytes.
-fn copied(heap: Global, bytes: &[u8]) -> Result<Vec<u8>, AllocError>
-    ensures { IfOk result (λ v. v.items ≡ bytes.now) }
-{
-    bytes.to_vec(heap)
+        })
+        .collect(heap)
 }
 
 fn drawing(heap: Global, writer: &Write<FlatBlob>) -> Result<Drawing, AllocError>
-    requires { Consistent (view ghosts.disk writer.now) }
-    ensures { IfOk result (λ d. drawn d ≡ drawing_of (view ghosts.disk writer.now)) }
+    ensures { IfOk result (λ d. drawn d ≡ drawing_of (view writer.now)) }
 {
     Ok(Drawing {
         offset: writer.tip_offset(),
-        tip: copied(heap, writer.tip())?,
-        content: copied(heap, writer.blob().content())?,
-        durable: copied(heap, writer.blob().durable())?,
+        tip: writer.tip().to_vec(heap)?,
+        images: Images::of(writer.blob()).copied(heap)?,
         sync_state: writer.sync_state(),
         closed: writer.is_closed(),
-    })
-}
-
-// What can be read of a blob, and what a power cut would leave.
-fn images_of(heap: Global, blob: &FlatBlob) -> Result<Answer, AllocError>
-    ensures { IfOk result (λ a. told a ≡ images_of blob.now) }
-{
-    Ok(Answer::Images {
-        content: copied(heap, blob.content())?,
-        durable: copied(heap, blob.durable())?,
     })
 }
 
@@ -121,61 +105,54 @@ impl Session {
         &mut self,
         heap: Global,
         limit: u64,
-        content: &[u8],
-        durable: &[u8],
-    ) -> Result<Answer, Problem>
-        requires { Sane self.old }
-        ensures makes { MakesFlat limit content.now durable.now self.old (said result) self.new }
-        ensures sane { Sane self.new }
+        images: &Images<&[u8]>,
+    ) -> Result<Answer, Failure>
+        ensures { MakesFlat limit images.now.content.now images.now.durable.now self.old (said result) self.new }
     {
-        if content.len() != durable.len() {
-            return Err(Problem::UnequalImages);
+        if images.content.len() != images.durable.len() {
+            return Err(Problem::UnequalImages.into());
         }
-        let Ok(area) = flat_area(heap, limit, content, durable) else {
-            return Err(Problem::OutOfMemory);
-        };
-        let start = content.len() as u64;
-        let answer = started(FlatBlob::check(area.len(), start));
+        let area = images.area(heap, limit)?;
+        let start = images.content.len() as u64;
+        let check = FlatBlob::check(area.len(), start);
         *self = Session::Free(FlatBlob::new(area, start));
-        Ok(answer)
+        check?;
+        Ok(Answer::Accepted)
     }
 
     // A writer on the blob.
-    fn make_writer(&mut self, capacity: u64) -> Result<Answer, Problem>
-        requires { Sane self.old }
-        ensures makes { MakesWriter capacity self.old (said result) self.new }
-        ensures sane { Sane self.new }
+    fn make_writer(&mut self, capacity: u64) -> Result<Answer, Failure>
+        ensures { MakesWriter capacity self.old (said result) self.new }
     {
         match mem::replace(self, Session::Empty) {
-            Session::Empty => Err(Problem::NoBlob),
+            Session::Empty => Err(Problem::NoBlob.into()),
             Session::Writing(writer) => {
                 *self = Session::Writing(writer);
-                Err(Problem::BlobHeld)
+                Err(Problem::BlobHeld.into())
             }
             Session::Free(blob) => {
                 *self = Session::Writing(Write::new(blob, capacity as usize));
-                Ok(answered(check_capacity(capacity as usize)))
+                check_capacity(capacity as usize)?;
+                Ok(Answer::Accepted)
             }
         }
     }
 
     // What a power cut would leave, beside what can be read.
-    fn images(&self, heap: Global) -> Result<Answer, Problem>
+    fn images(&self, heap: Global) -> Result<Answer, Failure>
         ensures { Shows self.now (said result) }
     {
         let blob = match self {
-            Session::Empty => return Err(Problem::NoBlob),
+            Session::Empty => return Err(Problem::NoBlob.into()),
             Session::Free(blob) => blob,
             Session::Writing(writer) => writer.blob(),
         };
-        images_of(heap, blob).or(Err(Problem::OutOfMemory))
+        Ok(Answer::Images(Images::of(blob).copied(heap)?))
     }
 
     // Performs one call.
-    pub fn perform(&mut self, heap: Global, call: &Call) -> Result<Answer, Problem>
-        requires { Sane self.old }
-        ensures performs { Performs self.old (plain call.now) (said result) self.new }
-        ensures sane { Sane self.new }
+    pub fn perform(&mut self, heap: Global, call: &Call) -> Result<Answer, Failure>
+        ensures { Performs self.old (plain call.now) (said result) self.new }
     {
         match call {
             Call::Flat {
@@ -183,29 +160,23 @@ impl Session {
                 content,
                 durable,
             } => {
-                let durable = match durable {
-                    Some(durable) => durable,
-                    None => content,
-                };
-                self.make_flat(heap, *limit, content.as_slice(), durable.as_slice())
+                let content = content.as_slice();
+                let durable = durable.as_deref().unwrap_or(content);
+                self.make_flat(heap, *limit, &Images { content, durable })
             }
             Call::Writer { capacity } => self.make_writer(*capacity),
             Call::Blob => self.images(heap),
             _ => match self {
-                Session::Writing(writer) => perform_on(heap, writer, call).or(Err(
-                    Problem::OutOfMemory,
-                )),
-                _ => Err(Problem::NoWriter),
+                Session::Writing(writer) => perform_on(heap, writer, call),
+                _ => Err(Problem::NoWriter.into()),
             },
         }
     }
 }
 
 // Performs a call of a writer.
-fn perform_on(heap: Global, writer: &mut Write<FlatBlob>, call: &Call) -> Result<Answer, AllocError>
-    requires { Consistent (view ghosts.disk writer.old) }
-    ensures does { MatchResult result (λ a. Does (plain call.now) (view ghosts.disk writer.old) (told a) (view ghosts.disk writer.new)) (λ _. Copies (plain call.now) × (writer.new ≡ writer.old)) }
-    ensures consistent { Consistent (view ghosts.disk writer.new) }
+fn perform_on(heap: Global, writer: &mut Write<FlatBlob>, call: &Call) -> Result<Answer, Failure>
+    ensures { MatchResult (said result) (λ a. Does (plain call.now) (view writer.old) a (view writer.new)) (λ p. (p ≡ OutOfMemory) × Copies (plain call.now) × (writer.new ≡ writer.old)) }
 {
     match call {
         Call::WriteAt {
@@ -218,17 +189,26 @@ fn perform_on(heap: Global, writer: &mut Write<FlatBlob>, call: &Call) -> Result
                 area: area.as_slice(),
                 pieces: pieces.as_slice(),
             };
-            Ok(answered(writer.write_at(*place, &list)))
+            writer.write_at(*place, &list)?;
+            Ok(Answer::Accepted)
         }
         Call::TryWriteAt { place, bytes } => Ok(Answer::YesNo(writer.try_write_at(
             *place,
             bytes.as_slice(),
         ))),
-        Call::Resize { len } => Ok(answered(writer.resize(*len))),
-        Call::Sync => Ok(answered(writer.sync())),
+        Call::Resize { len } => {
+            writer.resize(*len)?;
+            Ok(Answer::Accepted)
+        }
+        Call::Sync => {
+            writer.sync()?;
+            Ok(Answer::Accepted)
+        }
         Call::ReadAt { place, len } => read_back(heap, writer, *place, *len),
         Call::Size => Ok(Answer::Number(writer.size())),
         Call::NeedsSync => Ok(Answer::YesNo(writer.needs_sync())),
+        // `Boxes`: the other calls are no calls of a writer. An enum for those of a writer alone would change
+        // the printed form of a `Call`.
         _ => Ok(Answer::Boxes(drawing(heap, writer)?)),
     }
 }
@@ -239,17 +219,11 @@ fn read_back(
     writer: &mut Write<FlatBlob>,
     place: u64,
     len: u64,
-) -> Result<Answer, AllocError>
-    requires { Consistent (view ghosts.disk writer.old) }
-    ensures reads { MatchResult result (λ a. ReadsBack (view ghosts.disk writer.old) place len (told a) (view ghosts.disk writer.new)) (λ _. writer.new ≡ writer.old) }
-    ensures consistent { Consistent (view ghosts.disk writer.new) }
+) -> Result<Answer, Failure>
+    ensures { MatchResult (said result) (λ a. ReadsBack (view writer.old) place len a (view writer.new)) (λ p. (p ≡ OutOfMemory) × (writer.new ≡ writer.old)) }
 {
-    if let Err(error) = writer.check_read(place, len) {
-        return Ok(Answer::Refused(error));
-    }
+    writer.check_read(place, len)?;
     let mut out = vec![in heap; 0; len as usize]?;
-    match writer.read_at(place, &mut out) {
-        Ok(()) => Ok(Answer::Bytes(out)),
-        Err(error) => Ok(Answer::Refused(error)),
-    }
+    writer.read_at(place, &mut out)?;
+    Ok(Answer::Bytes(out))
 }

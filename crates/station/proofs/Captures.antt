@@ -1,8 +1,7 @@
 -- What a run, or a resize, makes of the content and the tip where the blob accepts: one value for each.
-use Rattle.std.proofs.Common.{◌≡◌, ℕ, ◌+◌, ◌-◌, ◌<◌, ◌≤◌, max, Bool, true, false, cond, ◌&&◌, ltb, leb, List, [], length, take, None, Ok, sym, refl, ap, ◌∙◌, ap₂, inl, inr, ⊎_elim, arith, le-ltb, lt-ltb, le-leb}
-use borrow.Author.Tests.{lt-leb}
+use Rattle.std.proofs.Common.{◌≡◌, ℕ, ◌+◌, ◌-◌, ◌<◌, ◌≤◌, max, Bool, true, false, cond, ◌&&◌, ltb, leb, List, [], length, take, None, Ok, sym, refl, ap, ◌∙◌, ap₂, inl, inr, arith, le-leb}
 use Rattle.std.proofs.lemmas.List.{take_at, take-take, nil_from_length}
-use Rattle.std.proofs.lemmas.Bool.{cases_lt}
+use Rattle.std.proofs.lemmas.Bool.{cond-true}
 use Rattle.blob.specs.Bytes.{laid, resized}
 use Rattle.blob.proofs.Bytes.{laid_nothing}
 use Rattle.buffer.specs.declared.error.Step.TheVariants.{Flush, DirectWrite}
@@ -44,22 +43,12 @@ placed m p bs = cond (merges m p (length bs)) (merged m p bs) (written m p bs)
 abbrev pub lays : Model → ℕ → List ℕ → Model
 lays m p bs = cond (merges m p (length bs)) (merged m p bs) (cond (ltb m.offset (p + length bs)) (placed (flushed m) p bs) (written m p bs))
 
-and_false : (a : Bool) → (a && false) ≡ false
-and_false true = refl
-and_false false = refl
-
 within_merges : (s : Boxes) (p n : ℕ) → Within s.tip p n → merges (model s) p n ≡ true
-within_merges s p n w = ap₂ (λ a b. a && b) (le-leb _ _ w.0) (le-leb _ _ w.1)
+within_merges s p n w = grind arith
 
 beyond_merges : (s : Boxes) (p n : ℕ) → Beyond s.tip p n → merges (model s) p n ≡ false
-beyond_merges s p n (inl low) = ap (λ a. a && leb (p + n) (s.tip.offset + s.tip.capacity)) (lt-leb _ _ low)
-beyond_merges s p n (inr high) = ap (λ b. leb s.tip.offset p && b) (lt-leb _ _ high) ∙ and_false _
-
-cond_true : {X : Type 0} (b : Bool) (x y : X) → b ≡ true → cond b x y ≡ x
-cond_true b x y h = ap (λ b. cond b x y) h
-
-cond_false : {X : Type 0} (b : Bool) (x y : X) → b ≡ false → cond b x y ≡ y
-cond_false b x y h = ap (λ b. cond b x y) h
+beyond_merges s p n (inl low) = grind arith
+beyond_merges s p n (inr high) = grind arith
 
 merges_model : (p : ℕ) (bs : List ℕ) (s t : Boxes) → MergesRun p bs s (Ok tt) t → model t ≡ merged (model s) p bs
 merges_model p bs s t m =
@@ -72,8 +61,8 @@ written_model p bs s t filled w =
     ap₂ (λ c (u : Buffer). made_of c u.offset (buffered u) u.capacity) content w.tip
 
 placed_model : (p : ℕ) (bs : List ℕ) (s t : Boxes) → 0 < length bs → PlacesRun p bs s (Ok tt) t → model t ≡ placed (model s) p bs
-placed_model p bs s t filled (inl m) = merges_model p bs s t m ∙ sym (cond_true _ _ _ (within_merges s p (length bs) m.within))
-placed_model p bs s t filled (inr w) = written_model p bs s t filled w ∙ sym (cond_false _ _ _ (beyond_merges s p (length bs) w.beyond))
+placed_model p bs s t filled (inl m) = grind (arith, merges_model p bs s t m, within_merges s p (length bs) m.within)
+placed_model p bs s t filled (inr w) = grind (arith, written_model p bs s t filled w, beyond_merges s p (length bs) w.beyond)
 
 flushed_model : (s t : Boxes) → Sized s.tip → Flushes options.Plain s (Ok tt) t → model t ≡ flushed (model s)
 flushed_model s t z (inl e) =
@@ -91,15 +80,12 @@ flushed_model s t z (inr f) =
     ∙ ap (λ n. made_of (laid s.store.disk.content s.tip.offset (buffered s.tip)) (s.tip.offset + n) [] s.tip.capacity) (sym long)
 
 pub run_model : (p : ℕ) (bs : List ℕ) (s t : Boxes) → Sized s.tip → 0 < length bs → LaysRun p bs s (Ok tt) t → model t ≡ lays (model s) p bs
-run_model p bs s t z filled (inl m) = merges_model p bs s t m ∙ sym (cond_true _ _ _ (within_merges s p (length bs) m.within))
+run_model p bs s t z filled (inl m) = grind (arith, merges_model p bs s t m, within_merges s p (length bs) m.within)
 run_model p bs s t z filled (inr (inl f)) =
     let (m, flush, place) = f.parts in
-    placed_model p bs m t filled place
-    ∙ ap (λ x. placed x p bs) (flushed_model s m z flush)
-    ∙ sym (cond_false _ _ _ (beyond_merges s p (length bs) f.beyond) ∙ cond_true _ _ _ (lt-ltb _ _ f.above))
-run_model p bs s t z filled (inr (inr w)) =
-    written_model p bs s t filled w.1
-    ∙ sym (cond_false _ _ _ (beyond_merges s p (length bs) w.1.beyond) ∙ cond_false _ _ _ (le-ltb _ _ w.0))
+    let above = f.above in
+    grind (arith, placed_model p bs m t filled place, flushed_model s m z flush, beyond_merges s p (length bs) f.beyond)
+run_model p bs s t z filled (inr (inr w)) = let below = w.0 in grind (arith, written_model p bs s t filled w.1, beyond_merges s p (length bs) w.1.beyond)
 
 -- a resize
 abbrev pub cut : Model → ℕ → Model
@@ -123,7 +109,7 @@ resize_model n s t z (inl a) =
     ∙ ap (λ c. resized c n) (store_writes_content options.Plain Flush s.tip.offset (buffered s.tip) s.store m (omega arith) write) in
     let whole : s.tip.offset + length (buffered s.tip) ≤ n = omega arith in
     ap₂ (λ c (u : Buffer). made_of c u.offset (buffered u) u.capacity) content a.tip
-    ∙ sym (cond_true _ _ _ (le-leb _ _ whole))
+    ∙ sym (cond-true _ _ _ (le-leb _ _ whole))
 resize_model n s t z (inr w) = within w.tip
   where
     long : length (buffered s.tip) ≡ s.tip.len
@@ -136,23 +122,11 @@ resize_model n s t z (inr w) = within w.tip
     within (inl (none, is)) =
         let l = long in
         let gone = laid_nothing s.store.disk.content s.tip.offset (buffered s.tip) (omega arith) in
-        cut_model n s t _ is content
-        ∙ ⊎_elim
-        (λ low.
-        let short : n < s.tip.offset + length (buffered s.tip) = omega arith in
-        sym (cond_false _ _ _ (lt-leb _ _ short) ∙ cond_false _ _ _ (lt-leb _ _ low)))
-        (λ high.
-        let whole : s.tip.offset + length (buffered s.tip) ≤ n = omega arith in
-        ap (λ c. made_of (resized c n) n [] s.tip.capacity) (sym gone) ∙ sym (cond_true _ _ _ (le-leb _ _ whole)))
-        (cases_lt n s.tip.offset)
+        grind (arith, cut_model n s t _ is content)
     within (inr (inl (some, starts, ends, is))) =
         let l = long in
-        let short : n < s.tip.offset + length (buffered s.tip) = omega arith in
-        cut_model n s t _ is content
-        ∙ ap (λ x. made_of (resized s.store.disk.content n) s.tip.offset x s.tip.capacity) (sym (take-take (n - s.tip.offset) s.tip.len s.tip.bytes (omega arith)))
-        ∙ sym (cond_false _ _ _ (lt-leb _ _ short) ∙ cond_true _ _ _ (le-leb _ _ starts))
+        let short : n - s.tip.offset ≤ s.tip.len = omega arith in
+        grind (arith, cut_model n s t _ is content, take-take (n - s.tip.offset) s.tip.len s.tip.bytes short)
     within (inr (inr (some, low, is))) =
         let l = long in
-        let short : n < s.tip.offset + length (buffered s.tip) = omega arith in
-        cut_model n s t _ is content
-        ∙ sym (cond_false _ _ _ (lt-leb _ _ short) ∙ cond_false _ _ _ (lt-leb _ _ low))
+        grind (arith, cut_model n s t _ is content)

@@ -1,7 +1,8 @@
 -- A list of calls on a sound blob, worked out, and the worked cases of a station by one computed test.
 use Rattle.std.proofs.Common.{◌≡◌, ℕ, ◌+◌, ◌^◌, ◌<◌, ◌≤◌, Bool, true, false, cond, ◌&&◌, eqb, ltb, leb, List, [], ◌∷◌, length, get_or, replicate, Ok, Err, Result, sym, refl, ap, ◌∙◌, subst, ap₂, inl, inr, ⊎_elim, arith, ltb-true, eqb-true, le-leb, leb-true}
-use borrow.Author.Tests.{clash, lt-leb}
+use borrow.Author.Tests.{clash}
 use Rattle.std.proofs.lemmas.List.{take_all}
+use Rattle.std.specs.List.{list_all}
 use Rattle.blob.specs.Meaning.{broken}
 use Rattle.blob.specs.declared.StartedSync.{StartedSync}
 use Rattle.buffer.specs.declared.error.Error.{Error}
@@ -12,7 +13,7 @@ use Rattle.writer.specs.Stores.{Outcome}
 use Rattle.writer.specs.Boxes.{LaysRun, LaysPieces}
 use Rattle.writer.specs.Steps.{State, limit, size, Consistent, made, WriteAt, ResizeTo, ReadAt}
 use Rattle.station.specs.Cases.{Call, write, resize, read, Takes, answer, Run, Row, Ends, Each, table, empty, StationCases}
-use Rattle.buffer.proofs.Lists.{and_true}
+use Rattle.std.proofs.lemmas.Bool.{lt-leb, and_parts}
 use Rattle.writer.proofs.Makings.{made_consistent}
 use Rattle.writer.proofs.Ready.{Stays, run_stays, resizes_stays, buffered_length}
 use Rattle.writer.proofs.Concluding.{ready}
@@ -27,20 +28,18 @@ record Good (s : State) (bound : ℕ) : Type 0 where
   limited : limit s ≡ bound
 
 fault_ok : (f : Rattle.buffer.specs.declared.error.Fault.Fault) → ◌≡◌ {A = Outcome} (Err f) (Ok tt) → ⊥
-fault_ok f e = let z : ◌≡◌ {A = ℕ} 0 1 = cc in omega arith
+fault_ok f e = cc
 
 -- a call that ends well leaves the writer good
 still_good : (s t : State) (bound : ℕ) → Good s bound → Stays s.boxes (Ok tt) t.boxes → t.closed ≡ false → Fine t.boxes.store.disk → Good t bound
 still_good s t bound g stays running fine =
-    let same = stays.limit in
-    let small = g.consistent.small in
-    let bounded = g.limited in
-    record {
-      consistent = record { sized = stays.sized; small = omega arith; fits = λ _. stays.fits };
-      running = running;
-      fine = fine;
-      limited = omega arith;
-    }
+    grind arith
+
+abbrev size_of : Model → ℕ
+size_of m = m.offset + length m.tip
+
+abbrev told_read : Model → ℕ → ℕ
+told_read m p = cond (leb p (size_of m)) 0 6
 
 -- What a call answers, and what it leaves.
 record Done (bound : ℕ) (after : Model) (told : ℕ) (r : Result Unit Error) (t : State) : Type 0 where
@@ -57,17 +56,13 @@ module _ (s t : State) (bound : ℕ) (g : Good s bound) where
     whole = record { start = 0; len = length bs }
 
     whole_inside : inside (length bs) whole ≡ true
-    whole_inside =
-        let ends : 0 + length bs ≤ length bs = omega arith in
-        ap₂ (λ a b. a && b) (le-leb _ _ short) (le-leb _ _ ends)
+    whole_inside = grind arith
 
     whole_run : run bs whole ≡ bs
     whole_run = take_all (length bs) bs (omega arith)
 
     only_first : (i : ℕ) → i < 1 → get_or (whole ∷ []) i (record { start = 0; len = 0 }) ≡ whole
-    only_first i low =
-        let first : i ≡ 0 = omega arith in
-        ap (λ k. get_or (whole ∷ []) k (record { start = 0; len = 0 })) first
+    only_first i low = grind arith
 
     laid_whole : (o : Outcome) → LaysPieces bs p (whole ∷ []) s.boxes o t.boxes → (o ≡ Ok tt) × LaysRun p bs s.boxes (Ok tt) t.boxes
     laid_whole (Ok x) (inl (none, l)) = absurd (omega arith)
@@ -121,16 +116,10 @@ module _ (s t : State) (bound : ℕ) (g : Good s bound) where
   resize_good n room (Err (DeviceFault f)) w = absurd (fault_ok f (resize_certain n s.boxes (Err f) t.boxes g.fine w.does).0)
 
   -- a read of no bytes
-  abbrev size_of : Model → ℕ
-  size_of m = m.offset + length m.tip
-
   size_is : size s ≡ size_of (model s.boxes)
   size_is =
       let long = buffered_length s.boxes.tip g.consistent.sized in
       ap (λ b. cond b 0 (s.boxes.tip.offset + s.boxes.tip.len)) g.running ∙ omega arith
-
-  abbrev told_read : Model → ℕ → ℕ
-  told_read m p = cond (leb p (size_of m)) 0 6
 
   read_none : (p : ℕ) → p < 2 ^ 64 → (out : List ℕ) (r : Result Unit Error) → ReadAt s p [] r t out → Done bound (model s.boxes) (told_read (model s.boxes) p) r t
   read_none p low out (Ok x) w =
@@ -173,21 +162,17 @@ after m (read p n) = m
 abbrev told : Model → Call → ℕ
 told m (write p bs) = 0
 told m (resize n) = 0
-told m (read p n) = cond (leb p (m.offset + length m.tip)) 0 6
+told m (read p n) = told_read m p
 
 call_done : (s t : State) (bound : ℕ) → Good s bound → (c : Call) (r : Result Unit Error) → allowed bound c ≡ true → Takes s c r t → Done bound (after (model s.boxes) c) (told (model s.boxes) c) r t
 call_done s t bound g (write p bs) r ok w =
-    let a = and_true (ltb 0 (length bs)) _ ok in
-    let b = and_true (leb (length bs) 65536) (leb (p + length bs) bound) a.1 in
+    let a = and_parts (ltb 0 (length bs)) _ ok in
+    let b = and_parts (leb (length bs) 65536) (leb (p + length bs) bound) a.1 in
     write_good s t bound g p bs (ltb-true _ _ a.0) (leb-true _ _ b.0) (leb-true _ _ b.1) r w
 call_done s t bound g (resize n) r ok w = resize_good s t bound g n (leb-true _ _ ok) r w
 call_done s t bound g (read p n) r ok (out, w) =
-    let a = and_true (eqb n 0) (ltb p (2 ^ 64)) ok in
+    let a = and_parts (eqb n 0) (ltb p (2 ^ 64)) ok in
     read_none s t bound g p (ltb-true _ _ a.1) out r (subst (λ k. ReadAt s p (replicate k 0) r t out) (eqb-true _ _ a.0) w)
-
-abbrev all_allowed : ℕ → List Call → Bool
-all_allowed bound [] = true
-all_allowed bound (c ∷ cs) = allowed bound c && all_allowed bound cs
 
 abbrev all_after : Model → List Call → Model
 all_after m [] = m
@@ -198,10 +183,10 @@ all_told m [] = []
 all_told m (c ∷ cs) = told m c ∷ all_told (after m c) cs
 
 -- what a list of calls answers, and what it leaves
-run_done : (s t : State) (bound : ℕ) → Good s bound → (cs : List Call) (answers : List ℕ) → all_allowed bound cs ≡ true → Run s cs answers t → (answers ≡ all_told (model s.boxes) cs) × (model t.boxes ≡ all_after (model s.boxes) cs)
+run_done : (s t : State) (bound : ℕ) → Good s bound → (cs : List Call) (answers : List ℕ) → list_all (allowed bound) cs ≡ true → Run s cs answers t → (answers ≡ all_told (model s.boxes) cs) × (model t.boxes ≡ all_after (model s.boxes) cs)
 run_done s t bound g [] answers ok (none, same) = (none, ap (λ (t : State). model t.boxes) same)
 run_done s t bound g (c ∷ cs) answers ok (r, m, rest, takes, first, more) =
-    let both = and_true (allowed bound c) (all_allowed bound cs) ok in
+    let both = and_parts (allowed bound c) (list_all (allowed bound) cs) ok in
     let done = call_done s m bound g c r both.0 takes in
     let others = run_done m t bound done.good cs rest both.1 more in
     (first ∙ ap₂ (λ x xs. x ∷ xs) done.answered (others.0 ∙ ap (λ x. all_told x cs) done.is), others.1 ∙ ap (λ x. all_after x cs) done.is)
@@ -211,7 +196,7 @@ abbrev start : Model
 start = made_of [] 0 [] 4
 
 pub record Tested (row : Row) : Type 0 where
-  pub sensible : all_allowed 64 row.calls ≡ true
+  pub sensible : list_all (allowed 64) row.calls ≡ true
   pub answers : all_told start row.calls ≡ row.answers
   pub ends : all_after start row.calls ≡ made_of row.blob row.offset row.tip 4
 
@@ -240,27 +225,9 @@ module _ (durable : List ℕ) (started : StartedSync) (whole : broken started �
   each_ends [] tested = tt
   each_ends (row ∷ rows) tested = (row_ends row tested.0, each_ends rows tested.1)
 
-abbrev tested_row : (row : Row) → all_allowed 64 row.calls ≡ true → all_told start row.calls ≡ row.answers → all_after start row.calls ≡ made_of row.blob row.offset row.tip 4 → Tested row
-tested_row row a b c = record { sensible = a; answers = b; ends = c }
-
 pub tested : Each Tested table
 unfolding Rattle.blob.specs.Bytes.laid Rattle.blob.specs.Bytes.resized
-tested = (
-  tested_row _ refl refl refl,
-  (
-    tested_row _ refl refl refl,
-    (
-      tested_row _ refl refl refl,
-      (
-        tested_row _ refl refl refl,
-        (
-          tested_row _ refl refl refl,
-          (tested_row _ refl refl refl, (tested_row _ refl refl refl, (tested_row _ refl refl refl, (tested_row _ refl refl refl, tt)))),
-        ),
-      ),
-    ),
-  ),
-)
+tested = search
 
 pub station_cases_lem : StationCases
 station_cases_lem durable started whole fits = each_ends durable started whole fits table tested

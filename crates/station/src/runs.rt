@@ -1,9 +1,4 @@
 // The worked cases, run over a flat blob.
-ghost use Rattle.blobs.specs.contracts.flat.calls.FlatBlobBlob.TheImpl.{ghosts};
-ghost use Rattle.std.specs.Prelude.{IfOk};
-ghost use Rattle.writer.specs.Steps.{Consistent};
-ghost use Rattle.writer.specs.View.{view};
-
 use blob::{Blob, Readable};
 use blobs::flat::FlatBlob;
 use buffer::error::Error;
@@ -13,18 +8,13 @@ use std::test::Fail;
 use writer::write::Write;
 
 // A writer with a tip of 4 bytes over an empty blob with a limit of 64.
-fn writer(heap: Global) -> Result<Write<FlatBlob>, AllocError>
-    ensures { IfOk result (λ w. Consistent (view ghosts.disk w)) }
-{
+fn writer(heap: Global) -> Result<Write<FlatBlob>, AllocError> {
     let area = vec![in heap; 0; 128]?;
     Ok(Write::new(FlatBlob::new(area, 0), 4))
 }
 
 // Writes the bytes as one piece.
-fn put(writer: &mut Write<FlatBlob>, place: u64, bytes: &[u8]) -> Result<(), Error>
-    requires { Consistent (view ghosts.disk writer.old) }
-    ensures { Consistent (view ghosts.disk writer.new) }
-{
+fn put(writer: &mut Write<FlatBlob>, place: u64, bytes: &[u8]) -> Result<(), Error> {
     let pieces = [Piece {
         start: 0,
         len: bytes.len(),
@@ -41,10 +31,10 @@ fn put(writer: &mut Write<FlatBlob>, place: u64, bytes: &[u8]) -> Result<(), Err
 #[test]
 fn a_late_packet_is_written_across_the_tip(rt: HostRuntime) -> Result<(), Fail> {
     let mut w = writer(rt.alloc())?;
-    assert!(rt; put(&mut w, 0, b"abcd").is_ok());
+    put(&mut w, 0, b"abcd")?;
     assert_eq!(rt; w.tip(), b"abcd".as_slice());
-    assert!(rt; put(&mut w, 4, b"ef").is_ok());
-    assert!(rt; put(&mut w, 3, b"XYZ").is_ok());
+    put(&mut w, 4, b"ef")?;
+    put(&mut w, 3, b"XYZ")?;
     assert_eq!(rt; w.blob().content(), b"abcXYZ".as_slice());
     assert_eq!(rt; w.tip_offset(), 6);
     Ok(())
@@ -53,14 +43,14 @@ fn a_late_packet_is_written_across_the_tip(rt: HostRuntime) -> Result<(), Fail> 
 #[test]
 fn a_cut_lets_no_old_byte_back(rt: HostRuntime) -> Result<(), Fail> {
     let mut w = writer(rt.alloc())?;
-    assert!(rt; put(&mut w, 0, b"abcd").is_ok());
-    assert!(rt; put(&mut w, 4, b"ef").is_ok());
-    assert!(rt; w.resize(5).is_ok());
-    assert!(rt; put(&mut w, 7, b"Z").is_ok());
+    put(&mut w, 0, b"abcd")?;
+    put(&mut w, 4, b"ef")?;
+    w.resize(5)?;
+    put(&mut w, 7, b"Z")?;
     let mut out = [9u8; 8];
-    assert!(rt; w.read_at(0, &mut out).is_ok());
+    w.read_at(0, &mut out)?;
     assert_eq!(rt; out.as_slice(), b"abcde\0\0Z".as_slice());
-    assert!(rt; w.sync().is_ok());
+    w.sync()?;
     assert_eq!(rt; w.blob().durable(), b"abcde\0\0Z".as_slice());
     Ok(())
 }
@@ -73,7 +63,7 @@ fn a_long_list_is_refused(rt: HostRuntime) -> Result<(), Fail> {
         area: b"a",
         pieces: &pieces,
     };
-    assert!(rt; matches!(w.write_at(0, &list), Err(Error::TooManyPieces)));
+    assert_eq!(rt; w.write_at(0, &list), Err(Error::TooManyPieces));
     assert_eq!(rt; w.size(), 0);
     Ok(())
 }
@@ -81,8 +71,8 @@ fn a_long_list_is_refused(rt: HostRuntime) -> Result<(), Fail> {
 #[test]
 fn a_write_may_end_at_the_limit_and_not_above(rt: HostRuntime) -> Result<(), Fail> {
     let mut w = writer(rt.alloc())?;
-    assert!(rt; put(&mut w, 62, b"yz").is_ok());
-    assert!(rt; matches!(put(&mut w, 63, b"yz"), Err(Error::NoRoom)));
+    put(&mut w, 62, b"yz")?;
+    assert_eq!(rt; put(&mut w, 63, b"yz"), Err(Error::NoRoom));
     assert_eq!(rt; w.size(), 64);
     Ok(())
 }

@@ -1,13 +1,14 @@
 -- One piece of a list, and those behind it.
-use Rattle.std.proofs.Common.{◌≡◌, ℕ, ◌+◌, ◌<◌, ◌≤◌, true, List, ◌∷◌, length, get_or, drop, Ok, Err, sym, refl, ◌∙◌, subst, inl, inr, arith}
-use Rattle.std.proofs.lemmas.List.{drop_more, drop_all}
+use Rattle.std.proofs.Common.{◌≡◌, ℕ, ◌+◌, ◌<◌, ◌≤◌, true, List, ◌∷◌, length, get_or, drop, Ok, Err, sym, ◌∙◌, subst, inl, inr, arith}
+use Rattle.std.proofs.lemmas.Bool.{and_parts}
+use Rattle.std.proofs.lemmas.Grind.{common_steps}
+use Rattle.std.proofs.lemmas.List.{at_drop_more, drop_more}
 use Rattle.buffer.specs.declared.error.Fault.{Fault}
 use Rattle.buffer.specs.declared.pieces.Piece.{Piece}
 use Rattle.buffer.specs.Pieces.{inside, run, carries, total, all_inside}
 use Rattle.writer.specs.Stores.{Outcome}
 use Rattle.writer.specs.Boxes.{Boxes, LaysRun, LaysPieces}
 use Rattle.writer.specs.Steps.{Ready}
-use Rattle.buffer.proofs.Lists.{and_true, inside_more, carries_more, total_more, carries_first, carries_rest}
 use Rattle.writer.proofs.Stores.{goes}
 use Rattle.writer.proofs.Ready.{run_stays, ready_again, run_length}
 
@@ -16,7 +17,7 @@ module _ (ps : List Piece) (i : ℕ) (d : Piece) (low : i < length ps) where
   split = drop_more ps i d low
 
   both_inside : (n : ℕ) → all_inside n (drop i ps) ≡ true → (inside n (get_or ps i d) ≡ true) × (all_inside n (drop (i + 1) ps) ≡ true)
-  both_inside n sound = and_true _ _ (sym (inside_more ps i d low n) ∙ sound)
+  both_inside n sound = and_parts _ _ (sym (at_drop_more (all_inside n) ps i d low) ∙ sound)
 
   first_inside : (n : ℕ) → all_inside n (drop i ps) ≡ true → inside n (get_or ps i d) ≡ true
   first_inside n sound = (both_inside n sound).0
@@ -26,13 +27,11 @@ module _ (ps : List Piece) (i : ℕ) (d : Piece) (low : i < length ps) where
 
   first_room : (at limit : ℕ) → (carries (drop i ps) ≡ true → at + total (drop i ps) ≤ limit) → 0 < (get_or ps i d).len → at + (get_or ps i d).len + total (drop (i + 1) ps) ≤ limit
   first_room at limit room some =
-      let more = total_more ps i d low in
-      omega (arith, room (carries_more ps i d low ∙ carries_first (get_or ps i d).len (carries (drop (i + 1) ps)) some))
+      grind (arith, common_steps, room, at_drop_more total ps i d low, at_drop_more carries ps i d low)
 
   rest_room : (at limit : ℕ) → (carries (drop i ps) ≡ true → at + total (drop i ps) ≤ limit) → carries (drop (i + 1) ps) ≡ true → at + total (drop (i + 1) ps) ≤ limit
   rest_room at limit room some =
-      let more = total_more ps i d low in
-      omega (arith, room (carries_more ps i d low ∙ carries_rest (get_or ps i d).len (carries (drop (i + 1) ps)) some))
+      grind (arith, common_steps, room, at_drop_more total ps i d low, at_drop_more carries ps i d low)
 
 -- Where the laying of a list stands before its i-th piece: the writer is ready for the pieces that are left,
 -- and whatever laying those does, laying the whole list does.
@@ -77,14 +76,4 @@ module _ (area : List ℕ) (ps : List Piece) (place : ℕ) (start : Boxes) (i at
 
   -- an empty piece skipped
   pub here_empty : here.len ≡ 0 → Laying area ps place start (i + 1) at s
-  here_empty none =
-      record {
-        ready = l.ready;
-        each = rest_inside ps i d low (length area) l.each;
-        room = rest_room ps i d low at s.store.disk.limit l.room;
-        whole = λ r t rest. l.whole r t (subst (λ qs. LaysPieces area at qs s r t) (sym (split ps i d low)) (inl (none, rest)));
-      }
-
--- no piece is left
-pub laying_ends : (area : List ℕ) (ps : List Piece) (place : ℕ) (start : Boxes) (i at : ℕ) (s : Boxes) → length ps ≤ i → Laying area ps place start i at s → LaysPieces area place ps start (Ok tt) s
-laying_ends area ps place start i at s past l = l.whole (Ok tt) s (subst (λ qs. LaysPieces area at qs s (Ok tt) s) (sym (drop_all i ps past)) refl)
+  here_empty none = grind (arith, rest_inside, rest_room, split)

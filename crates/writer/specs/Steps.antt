@@ -21,9 +21,16 @@ pub record State : Type 0 where
   pub boxes : Boxes
   pub closed : Bool
 
+abbrev pub whole : Boxes → Bool → State
+whole b closed = record { boxes = b; closed = closed }
+
+-- A writer that no fault has closed.
+abbrev pub running : Boxes → State
+running b = whole b false
+
 -- A writer's record, with its blob as callers know it.
 abbrev pub state : Disk → SyncState → Buffer → Bool → State
-state disk sync tip closed = record { boxes = boxes (store disk sync) tip; closed = closed }
+state disk sync tip closed = whole (boxes (store disk sync) tip) closed
 
 abbrev pub limit : State → ℕ
 limit s = s.boxes.store.disk.limit
@@ -55,13 +62,7 @@ made disk n = state disk Dirty (fresh (length disk.content) (capacity n)) false
 abbrev pub ChecksCapacity : ℕ → Result Unit Error → Type 0
 ChecksCapacity n (Ok _) = (1 ≤ n) × (n ≤ 4096)
 ChecksCapacity n (Err BadCapacity) = (n ≡ 0) ⊎ (4096 < n)
-ChecksCapacity n (Err TooManyPieces) = ⊥
-ChecksCapacity n (Err (BadPiece i)) = ⊥
-ChecksCapacity n (Err OffsetOverflow) = ⊥
-ChecksCapacity n (Err NoRoom) = ⊥
-ChecksCapacity n (Err BlobInsufficientLength) = ⊥
-ChecksCapacity n (Err Closed) = ⊥
-ChecksCapacity n (Err (DeviceFault fault)) = ⊥
+ChecksCapacity n (Err e) = ⊥
 
 -- What every call answers on a closed writer, and what a refusal leaves.
 pub record IsClosed (s t : State) : Type 0 where
@@ -104,25 +105,21 @@ pub record Crowds (s : State) (n place : ℕ) (ps : List Piece) : Type 0 where
 -- Whether the list is refused, n being its area's length. Refusals come in the order of their numbers.
 abbrev pub Admits : State → ℕ → ℕ → List Piece → Result Unit Error → Type 0
 Admits s place n ps (Ok _) = Writable s n place ps
-Admits s place n ps (Err BadCapacity) = ⊥
 Admits s place n ps (Err TooManyPieces) = 1024 < length ps
 Admits s place n ps (Err (BadPiece i)) = Offends n ps i
 Admits s place n ps (Err OffsetOverflow) = Overflows n place ps
 Admits s place n ps (Err NoRoom) = Crowds s n place ps
-Admits s place n ps (Err BlobInsufficientLength) = ⊥
-Admits s place n ps (Err Closed) = ⊥
-Admits s place n ps (Err (DeviceFault fault)) = ⊥
+Admits s place n ps (Err e) = ⊥
 
 abbrev pub WriteAt : State → ℕ → List ℕ → List Piece → Result Unit Error → State → Type 0
 WriteAt s place area ps (Ok x) t = Runs s (Admits s place (length area) ps (Ok x)) (LaysPieces area place ps s.boxes (Ok x) t.boxes) t false
-WriteAt s place area ps (Err BadCapacity) t = ⊥
 WriteAt s place area ps (Err TooManyPieces) t = Refused s (Admits s place (length area) ps (Err TooManyPieces)) t
 WriteAt s place area ps (Err (BadPiece i)) t = Refused s (Admits s place (length area) ps (Err (BadPiece i))) t
 WriteAt s place area ps (Err OffsetOverflow) t = Refused s (Admits s place (length area) ps (Err OffsetOverflow)) t
 WriteAt s place area ps (Err NoRoom) t = Refused s (Admits s place (length area) ps (Err NoRoom)) t
-WriteAt s place area ps (Err BlobInsufficientLength) t = ⊥
 WriteAt s place area ps (Err Closed) t = IsClosed s t
 WriteAt s place area ps (Err (DeviceFault fault)) t = Runs s (Admits s place (length area) ps (Ok tt)) (LaysPieces area place ps s.boxes (Err fault) t.boxes) t true
+WriteAt s place area ps (Err e) t = ⊥
 
 -- try_write_at: yes to no bytes at all, and to a run that merges and ends within the limit; else no, and
 -- nothing has moved. A run that ends at or above 2^64 ends above every limit.
@@ -141,25 +138,16 @@ TryWriteAt s place run false t = IsClosed s t ⊎ Refused s (Unmergeable s place
 
 abbrev pub ResizeTo : State → ℕ → Result Unit Error → State → Type 0
 ResizeTo s n (Ok x) t = Runs s (n ≤ limit s) (ResizesBoxes n s.boxes (Ok x) t.boxes) t false
-ResizeTo s n (Err BadCapacity) t = ⊥
-ResizeTo s n (Err TooManyPieces) t = ⊥
-ResizeTo s n (Err (BadPiece i)) t = ⊥
-ResizeTo s n (Err OffsetOverflow) t = ⊥
 ResizeTo s n (Err NoRoom) t = Refused s (limit s < n) t
-ResizeTo s n (Err BlobInsufficientLength) t = ⊥
 ResizeTo s n (Err Closed) t = IsClosed s t
 ResizeTo s n (Err (DeviceFault fault)) t = Runs s (n ≤ limit s) (ResizesBoxes n s.boxes (Err fault) t.boxes) t true
+ResizeTo s n (Err e) t = ⊥
 
 abbrev pub SyncAll : State → Result Unit Error → State → Type 0
 SyncAll s (Ok x) t = Runs s (Unit {0}) (SyncsBoxes s.boxes (Ok x) t.boxes) t false
-SyncAll s (Err BadCapacity) t = ⊥
-SyncAll s (Err TooManyPieces) t = ⊥
-SyncAll s (Err (BadPiece i)) t = ⊥
-SyncAll s (Err OffsetOverflow) t = ⊥
-SyncAll s (Err NoRoom) t = ⊥
-SyncAll s (Err BlobInsufficientLength) t = ⊥
 SyncAll s (Err Closed) t = IsClosed s t
 SyncAll s (Err (DeviceFault fault)) t = Runs s (Unit {0}) (SyncsBoxes s.boxes (Err fault) t.boxes) t true
+SyncAll s (Err e) t = ⊥
 
 -- size and needs_sync.
 abbrev pub size : State → ℕ
@@ -178,14 +166,10 @@ pub record InRange (s : State) (place n : ℕ) : Type 0 where
 -- Which reads of n bytes are refused.
 abbrev pub ChecksRead : State → ℕ → ℕ → Result Unit Error → Type 0
 ChecksRead s place n (Ok _) = InRange s place n
-ChecksRead s place n (Err BadCapacity) = ⊥
-ChecksRead s place n (Err TooManyPieces) = ⊥
-ChecksRead s place n (Err (BadPiece i)) = ⊥
 ChecksRead s place n (Err OffsetOverflow) = (s.closed ≡ false) × (2 ^ 64 ≤ place + n)
-ChecksRead s place n (Err NoRoom) = ⊥
 ChecksRead s place n (Err BlobInsufficientLength) = (s.closed ≡ false) × (place + n < 2 ^ 64) × (size s < place + n)
 ChecksRead s place n (Err Closed) = s.closed ≡ true
-ChecksRead s place n (Err (DeviceFault fault)) = ⊥
+ChecksRead s place n (Err e) = ⊥
 
 -- What reading from the blob leaves of it; where no byte is wanted, it is not touched.
 abbrev pub Asked : ℕ → Disk → Disk → Type 0
@@ -216,14 +200,8 @@ pub record ReadFaults (s : State) (place : ℕ) (out : List ℕ) (fault : Fault)
 -- A read in range.
 abbrev pub Gathers : State → ℕ → List ℕ → Result Unit Error → State → List ℕ → Type 0
 Gathers s place out (Ok _) t out' = ReadsOk s place out t out'
-Gathers s place out (Err BadCapacity) t out' = ⊥
-Gathers s place out (Err TooManyPieces) t out' = ⊥
-Gathers s place out (Err (BadPiece i)) t out' = ⊥
-Gathers s place out (Err OffsetOverflow) t out' = ⊥
-Gathers s place out (Err NoRoom) t out' = ⊥
-Gathers s place out (Err BlobInsufficientLength) t out' = ⊥
-Gathers s place out (Err Closed) t out' = ⊥
 Gathers s place out (Err (DeviceFault fault)) t out' = ReadFaults s place out fault t out'
+Gathers s place out (Err e) t out' = ⊥
 
 -- A refused read leaves the writer and the output.
 pub record ReadRefused (s : State) (place : ℕ) (out : List ℕ) (e : Error) (t : State) (out' : List ℕ) : Type 0 where
@@ -233,11 +211,8 @@ pub record ReadRefused (s : State) (place : ℕ) (out : List ℕ) (e : Error) (t
 
 abbrev pub ReadAt : State → ℕ → List ℕ → Result Unit Error → State → List ℕ → Type 0
 ReadAt s place out (Ok x) t out' = ChecksRead s place (length out) (Ok x) × Gathers s place out (Ok x) t out'
-ReadAt s place out (Err BadCapacity) t out' = ⊥
-ReadAt s place out (Err TooManyPieces) t out' = ⊥
-ReadAt s place out (Err (BadPiece i)) t out' = ⊥
 ReadAt s place out (Err OffsetOverflow) t out' = ReadRefused s place out OffsetOverflow t out'
-ReadAt s place out (Err NoRoom) t out' = ⊥
 ReadAt s place out (Err BlobInsufficientLength) t out' = ReadRefused s place out BlobInsufficientLength t out'
 ReadAt s place out (Err Closed) t out' = ReadRefused s place out Closed t out'
 ReadAt s place out (Err (DeviceFault fault)) t out' = ChecksRead s place (length out) (Ok tt) × Gathers s place out (Err (DeviceFault fault)) t out'
+ReadAt s place out (Err e) t out' = ⊥

@@ -1,12 +1,9 @@
 -- A writer over any blob, as a plain record.
-use Rattle.blob.specs.Meaning.{Disk}
+use Rattle.blob.specs.declared.Blob as blob
+use Rattle.blob.specs.declared.Readable as readable
 use Rattle.writer.specs.declared.write.Write.{Write}
-use Rattle.writer.specs.Stores.{store}
-use Rattle.writer.specs.Boxes.{Boxes, boxes}
-use Rattle.writer.specs.Steps.{State, state}
+use Rattle.writer.specs.Parts.{parts}
+use Rattle.writer.specs.Steps.{State, whole}
 
-abbrev pub parts : {B : Type 0} → (B → Disk) → Write B → Boxes
-parts disk w = boxes (store (disk w.blob) w.sync_state) w.buffer
-
-abbrev pub view : {B : Type 0} → (B → Disk) → Write B → State
-view disk w = state (disk w.blob) w.sync_state w.buffer w.closed
+abbrev pub view : {B : Type 0} {b : blob.Ghosts B} {r : readable.Ghosts B} → Write B b r → State
+view {b = b} w = whole (parts b.disk w.boxes) w.closed

@@ -1,11 +1,11 @@
 // Whether changes of the blob still need a sync, and the blob calls that change it.
 ghost use Rattle.std.specs.Prelude.{◌≡◌, ◌+◌, ◌≤◌, length};
-ghost use Rattle.writer.specs.Stores.{store, clean, Waits, StoreWrites, StoreResizes, StoreSyncs, Unrefused, Locates};
+ghost use Rattle.writer.specs.Stores.{store, clean, Waits, StoreWrites, StoreResizes, StoreSyncs, Unrefused, Locates, Follows};
 
 use blob::{Blob, BlobError};
 use buffer::error::{Fault, Step};
 
-#[derive(Clone, Copy)]
+#[derive(Clone, Copy, Debug)]
 pub enum SyncState {
     // Nothing needs a sync.
     Clean,
@@ -30,16 +30,33 @@ pub(crate) fn located(answer: Result<(), BlobError>, step: Step, place: u64) -> 
     match answer {
         Ok(()) => Ok(()),
         Err(BlobError::DeviceFault(code)) => Err(Fault { code, step, place }),
-        Err(BlobError::NoRoom) => unreachable(),
-        Err(BlobError::BlobInsufficientLength) => unreachable(),
+        Err(BlobError::NoRoom | BlobError::BlobInsufficientLength) => unreachable(),
     }
 }
 
+// The blob is passed beside the state, as the ported code does it: a state's own calls match the state.
 impl SyncState {
+    // A pattern, as in the ported code: `==` on one variant would be no plainer.
     pub(crate) fn is_clean(&self) -> bool
         ensures { result ≡ clean self.now }
     {
         matches!(self, SyncState::Clean)
+    }
+
+    // Takes the blob's answer to a call that leads to the state `next`. A fault leaves the state.
+    fn follow(
+        &mut self,
+        answer: Result<(), BlobError>,
+        next: SyncState,
+        step: Step,
+        place: u64,
+    ) -> Result<(), Fault>
+        requires { Unrefused answer }
+        ensures { Follows answer next step place self.old result self.new }
+    {
+        located(answer, step, place)?;
+        *self = next;
+        Ok(())
     }
 
     // Waits for a started sync, before the blob is changed.
@@ -49,9 +66,7 @@ impl SyncState {
         let SyncState::Pending = self else {
             return Ok(());
         };
-        located(blob.finish_sync(), Step::Wait, 0)?;
-        *self = SyncState::Clean;
-        Ok(())
+        self.follow(blob.finish_sync(), SyncState::Clean, Step::Wait, 0)
     }
 
     // Writes the bytes to the blob. A fault names `step`.
@@ -69,21 +84,20 @@ impl SyncState {
         self.wait_for_pending(blob)?;
         match (&*self, options) {
             (_, WriteOptions::Plain) => {
-                located(blob.write_at(place, bytes), step, place)?;
-                *self = SyncState::Dirty;
-                Ok(())
+                self.follow(blob.write_at(place, bytes), SyncState::Dirty, step, place)
             }
-            (SyncState::Clean, WriteOptions::Sync) => located(
-                blob.write_at_sync(place, bytes),
-                step,
-                place,
-            ),
+            (SyncState::Clean, WriteOptions::Sync) => {
+                self.follow(
+                    blob.write_at_sync(place, bytes),
+                    SyncState::Clean,
+                    step,
+                    place,
+                )
+            }
             (SyncState::Dirty, WriteOptions::Sync) => {
                 // Earlier changes need the sync too.
-                located(blob.write_at(place, bytes), step, place)?;
-                located(blob.sync(), Step::Sync, 0)?;
-                *self = SyncState::Clean;
-                Ok(())
+                self.follow(blob.write_at(place, bytes), SyncState::Dirty, step, place)?;
+                self.follow(blob.sync(), SyncState::Clean, Step::Sync, 0)
             }
             (SyncState::Pending, WriteOptions::Sync) => unreachable(),
         }
@@ -94,20 +108,16 @@ impl SyncState {
         ensures { StoreResizes len (store (B.disk blob.old) self.old) result (store (B.disk blob.new) self.new) }
     {
         self.wait_for_pending(blob)?;
-        located(blob.resize(len), Step::Resize, len)?;
-        *self = SyncState::Dirty;
-        Ok(())
+        self.follow(blob.resize(len), SyncState::Dirty, Step::Resize, len)
     }
 
     pub(crate) fn sync<B: Blob>(&mut self, blob: &mut B) -> Result<(), Fault>
         ensures { StoreSyncs (store (B.disk blob.old) self.old) result (store (B.disk blob.new) self.new) }
     {
         self.wait_for_pending(blob)?;
-        if let SyncState::Clean = self {
+        if self.is_clean() {
             return Ok(());
         }
-        located(blob.sync(), Step::Sync, 0)?;
-        *self = SyncState::Clean;
-        Ok(())
+        self.follow(blob.sync(), SyncState::Clean, Step::Sync, 0)
     }
 }

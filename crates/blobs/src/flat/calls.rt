@@ -119,6 +119,7 @@ impl Blob for FlatBlob {
         self.limit as u64
     }
 
+    // The interfaces have two reads, and a caller of this one knows more of the blob after it.
     fn read_back(&mut self, place: u64, out: &mut [u8]) -> Result<(), BlobError>
         ensures bytes { Reads (disk self.old).content place out.old result (disk self.new).content out.new }
         ensures keeps { ReadKeeps (disk self.old) result (disk self.new) }

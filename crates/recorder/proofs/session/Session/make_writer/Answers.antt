@@ -1,13 +1,14 @@
-use Rattle.std.proofs.Common.{Ok, refl, ap, subst}
-use Rattle.recorder.specs.declared.session.Session.{Session}
-use Rattle.recorder.specs.declared.session.Session.TheVariants.{Writing}
-use Rattle.recorder.specs.Session.{MakesWriter, told}
+use Rattle.std.proofs.Common.{Ok, Err, sym, refl}
+use Rattle.recorder.specs.Session.{said}
+use Rattle.recorder.proofs.Said.{said_refused}
+use Rattle.recorder.proofs.Made.{writer_made}
 use Rattle.recorder.proofs.session.Session.make_writer.Goals as goal
 
-pub returns-in-Free : goal.returns-in-Free
-returns-in-Free c =
-    let made : Session → Type 0 = λ s. MakesWriter c.args.capacity s (Ok (told c.answered.result)) (Writing c.new.result) in
-    record {
-      makes = subst made c.in-Free.ensures.value ((c.new.result, refl, c.new.ensures.made), (c.check_capacity.result, ap Ok c.answered.ensures, c.check_capacity.ensures));
-      sane = c.new.ensures.consistent;
-    }
+pub returns-in_err-check_capacity-in-Free : goal.returns-in_err-check_capacity-in-Free
+returns-in_err-check_capacity-in-Free c =
+    let r = c.from_residual.result in
+    let e = c.in_err-check_capacity-in-Free.field-0.0 in
+    writer_made _ _ c.in-Free.blob c.new.result (said r) (Err e) (sym c.in-Free.ensures.value) c.new.ensures (said_refused r e c.from_residual.ensures.1) c.in_err-check_capacity-in-Free.ensures
+
+pub returns-in_ok-check_capacity-in-Free : goal.returns-in_ok-check_capacity-in-Free
+returns-in_ok-check_capacity-in-Free c = writer_made _ _ c.in-Free.blob c.new.result _ (Ok tt) (sym c.in-Free.ensures.value) c.new.ensures refl c.in_ok-check_capacity-in-Free.ensures

@@ -1,0 +1,2 @@
+mod Said
+mod Made
