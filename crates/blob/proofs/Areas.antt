@@ -8,6 +8,10 @@ use Rattle.blob.proofs.Bytes.{length-laid, length-laid_within, at-laid_in, at-la
 -- what a step reads of an array at a place
 ruleset reads = (length-take, length-drop, length-replicate, length-laid_within, at-laid_in, at-laid_below, at-laid_above, at-zeros, get_or_past, get_or-take, get_or-drop)
 
+-- zeros in the gap between an array and a place behind it
+gap_length : (area : List ℕ) (len p : ℕ) → len ≤ length area → p ≤ length area → length (laid area len (replicate (p - len) 0)) ≡ length area
+gap_length area len p h k = grind (arith, reads)
+
 -- two arrays that agree up to a place
 front_same : (x y : List ℕ) (n : ℕ) → length x ≡ length y → ((k : ℕ) → k < n → at x k ≡ at y k) → take n x ≡ take n y
 front_same x y n same each = same_number_lists _ _ (grind (arith, reads)) (λ k within. grind (arith, reads, each k))

@@ -47,7 +47,7 @@ pub struct FlatBlob {
     len: usize,
     durable_len: usize,
     started: StartedSync,
-    // No `impl Model`: the values that it shows would not keep these facts, and the law `unbroken` of a blob needs one.
+    // No `impl Model`: the law `unbroken` of a blob holds of every value, and the plain record of a model keeps no fact.
     ghost halves: { limit + limit ≤ vec_len area },
     ghost small: { limit ≤ 2 ^ 62 },
     ghost content_fits: { len ≤ limit },

@@ -16,7 +16,7 @@ fn copy_run(part: &mut [u8], run: &[u8])
     part.copy_from_slice(run);
 }
 
-// `Sized` is no ghost field: `new`, `resize` and `raise` take any number, and contracts make tips of any bytes and length.
+// `Sized` is no ghost field: `new`, `resize` and `raise` take any number, and definitions make tips of any bytes and length.
 #[derive(Drop)]
 pub struct Buffer {
     // The first `len` of these are buffered. An array, since no writer call allocates and those behind stay readable.

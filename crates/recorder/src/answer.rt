@@ -119,7 +119,7 @@ impl fmt::Display for Problem {
     }
 }
 
-// By hand, as `Answer`: a derive would print the names of the fields.
+// By hand: a derive would print the names of the fields.
 impl fmt::Display for Drawing {
     fn fmt<W: fmt::Write>(&self, f: &mut fmt::Formatter<W>) -> fmt::Result {
         let Images { content, durable } = &self.images;
@@ -138,6 +138,7 @@ impl fmt::Display for Drawing {
     }
 }
 
+// By hand: a derive would print the names of the variants.
 impl fmt::Display for Answer {
     fn fmt<W: fmt::Write>(&self, f: &mut fmt::Formatter<W>) -> fmt::Result {
         match self {

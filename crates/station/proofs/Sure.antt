@@ -1,14 +1,12 @@
 -- On a sound blob no part of a call faults, and the blob stays sound.
-use Rattle.std.proofs.Common.{◌≡◌, ℕ, true, false, List, Ok, Err, sym, refl, ap, ◌∙◌, subst, inl, inr, ⊎_elim}
-use borrow.Author.Tests.{clash}
-use Rattle.blob.specs.declared.StartedSync.{StartedSync}
-use Rattle.blob.specs.declared.StartedSync.TheVariants.{Idle, Done}
-use Rattle.blob.specs.Meaning.{Disk, Answer, broken, Lasts, Writes, Resizes, Finishes}
+use Rattle.std.proofs.Common.{◌≡◌, ℕ, true, false, List, Ok, Err, sym, refl, ap, ◌∙◌, subst, inl, inr, arith}
+use Rattle.blob.specs.Meaning.{Disk, Answer, broken, Writes, SyncWrites, Resizes, Syncs, Finishes}
 use Rattle.blob.specs.declared.BlobError.TheVariants.{DeviceFault}
 use Rattle.buffer.specs.declared.error.Step.{Step}
-use Rattle.buffer.specs.declared.error.Step.TheVariants.{Flush, DirectWrite, Resize, Wait}
+use Rattle.buffer.specs.declared.error.Step.TheVariants.{Flush, DirectWrite, Resize, Sync, Wait}
 use Rattle.writer.specs.declared.sync_state.SyncState.{SyncState}
 use Rattle.writer.specs.declared.sync_state.SyncState.TheVariants.{Clean, Dirty, Pending}
+use Rattle.writer.specs.declared.sync_state.WriteOptions.{WriteOptions}
 use Rattle.writer.specs.declared.sync_state.WriteOptions.TheVariants as options
 use Rattle.buffer.specs.Tip.{buffered}
 use Rattle.writer.specs.Stores.{Store, Outcome, Nothing, Then, Asks, WaitsFrom, Waits, WritesFrom, StoreWrites, StoreResizes}
@@ -34,16 +32,6 @@ sound_store s = Fine s.disk
 abbrev Sure : (Store → Outcome → Store → Type 0) → Type 0
 Sure R = Keeps sound_store R
 
-unsound : {X : Type 0} (b : Disk) → Fine b → b.sound ≡ false → X
-unsound b h k = absurd (clash (sym k ∙ h.sound))
-
-same_fine : (b c : Disk) → Fine b → c ≡ b → Fine c
-same_fine b c h e = subst Fine (sym e) h
-
--- a started sync that is known not to be broken
-fine_by : (b c : Disk) (after : StartedSync) → Fine b → Lasts b c → c.started ≡ after → broken after ≡ false → Fine c
-fine_by b c after h lasts is whole = record { sound = lasts.sound h.sound; unbroken = ap broken is ∙ whole }
-
 nothing_sure : Sure Nothing
 nothing_sure s (Ok x) t h e = (refl, subst sound_store (sym e) h)
 nothing_sure s (Err f) t h e = absurd e
@@ -53,22 +41,19 @@ asks_sure call step place after ok no-fault s (Ok x) t h a = (refl, ok s.disk t.
 asks_sure call step place after ok no-fault s (Err f) t h a = absurd (no-fault s.disk f.code t.disk h a.0)
 
 writes_sure : (step : Step) (p : ℕ) (bs : List ℕ) (after : SyncState) → Sure (Asks (λ b. Writes b p bs) step p after)
-writes_sure step p bs after =
-    asks_sure (λ b. Writes b p bs) step p after
-    (λ b c h w. ⊎_elim (λ e. same_fine b c h e.same) (λ f. fine_by b c Idle h f.result.lasts f.result.started refl) w)
-    (λ b code c h w. unsound b h w.result.fails.unsound)
+writes_sure step p bs after = asks_sure (λ b. Writes b p bs) step p after (λ b c h w. grind arith) (λ b code c h w. grind arith)
+
+sync_writes_sure : (step : Step) (p : ℕ) (bs : List ℕ) (after : SyncState) → Sure (Asks (λ b. SyncWrites b p bs) step p after)
+sync_writes_sure step p bs after = asks_sure (λ b. SyncWrites b p bs) step p after (λ b c h w. grind arith) (λ b code c h w. grind arith)
 
 resizes_sure : (n : ℕ) → Sure (Asks (λ b. Resizes b n) Resize n Dirty)
-resizes_sure n =
-    asks_sure (λ b. Resizes b n) Resize n Dirty
-    (λ b c h w. fine_by b c Idle h w.1.lasts w.1.started refl)
-    (λ b code c h w. unsound b h w.1.fails.unsound)
+resizes_sure n = asks_sure (λ b. Resizes b n) Resize n Dirty (λ b c h w. grind arith) (λ b code c h w. grind arith)
+
+syncs_sure : Sure (Asks Syncs Sync 0 Clean)
+syncs_sure = asks_sure Syncs Sync 0 Clean (λ b c h w. grind arith) (λ b code c h w. grind arith)
 
 finishes_sure : Sure (Asks Finishes Wait 0 Clean)
-finishes_sure =
-    asks_sure Finishes Wait 0 Clean
-    (λ b c h w. ⊎_elim (λ d. fine_by b c Done h d.1.lasts d.1.started refl) (⊎_elim (λ d. same_fine b c h d.0.same) (λ i. same_fine b c h i.same)) w)
-    (λ b code c h w. ⊎_elim (λ d. unsound b h d.1.unsound) (λ i. clash (sym h.unbroken ∙ ap broken i.0.was)) w)
+finishes_sure = asks_sure Finishes Wait 0 Clean (λ b c h w. grind arith) (λ b code c h w. grind arith)
 
 waits_from_sure : (y : SyncState) → Sure (WaitsFrom y)
 waits_from_sure Clean = nothing_sure
@@ -78,12 +63,19 @@ waits_from_sure Pending = finishes_sure
 waits_sure : Sure Waits
 waits_sure s = waits_from_sure s.sync s
 
--- a write that need not be durable, and a resize, with the wait before them
-plain_writes_sure : (step : Step) (p : ℕ) (bs : List ℕ) → Sure (StoreWrites options.Plain step p bs)
-plain_writes_sure step p bs = then_keeps sound_store Waits (λ s. WritesFrom options.Plain s.sync step p bs s) waits_sure (writes_sure step p bs Dirty)
+-- a write by every option, also where a sync comes with it
+writes_from_sure : (o : WriteOptions) (y : SyncState) (step : Step) (p : ℕ) (bs : List ℕ) → Sure (WritesFrom o y step p bs)
+writes_from_sure options.Plain y step p bs = writes_sure step p bs Dirty
+writes_from_sure options.Sync Clean step p bs = sync_writes_sure step p bs Clean
+writes_from_sure options.Sync Dirty step p bs = then_keeps sound_store _ _ (writes_sure step p bs Dirty) syncs_sure
+writes_from_sure options.Sync Pending step p bs = λ s r t h w. absurd w
+
+-- such a write, and a resize, with the wait before them
+store_writes_sure : (o : WriteOptions) (step : Step) (p : ℕ) (bs : List ℕ) → Sure (StoreWrites o step p bs)
+store_writes_sure o step p bs = then_keeps sound_store _ _ waits_sure (λ s. writes_from_sure o s.sync step p bs s)
 
 store_resizes_sure : (n : ℕ) → Sure (StoreResizes n)
-store_resizes_sure n = then_keeps sound_store Waits (Asks (λ b. Resizes b n) Resize n Dirty) waits_sure (resizes_sure n)
+store_resizes_sure n = then_keeps sound_store _ _ waits_sure (resizes_sure n)
 
 -- and so for the tip and the blob together
 abbrev sound_boxes : Boxes → Type 0
@@ -96,15 +88,15 @@ none_certain : (s u : Boxes) (r : Outcome) (t : Boxes) → u.store ≡ s.store �
 none_certain s u (Ok x) t same h e = (refl, subst sound_store (sym (ap (λ (b : Boxes). b.store) e ∙ same)) h)
 none_certain s u (Err f) t same h e = absurd e
 
-flushes_certain : Certain (Flushes options.Plain)
-flushes_certain s r t h (inl e) = none_certain s s r t refl h e.1
-flushes_certain s r t h (inr f) = plain_writes_sure Flush s.tip.offset (buffered s.tip) s.store r t.store h f.writes
+flushes_certain : (o : WriteOptions) → Certain (Flushes o)
+flushes_certain o s r t h (inl e) = none_certain s s r t refl h e.1
+flushes_certain o s r t h (inr f) = store_writes_sure o Flush s.tip.offset (buffered s.tip) s.store r t.store h f.writes
 
 merges_certain : (p : ℕ) (bs : List ℕ) → Certain (MergesRun p bs)
 merges_certain p bs s r t h m = none_certain s _ r t refl h m.tip
 
 direct_certain : (p : ℕ) (bs : List ℕ) → Certain (WritesRun p bs)
-direct_certain p bs s r t h w = plain_writes_sure DirectWrite p bs s.store r t.store h w.writes
+direct_certain p bs s r t h w = store_writes_sure options.Plain DirectWrite p bs s.store r t.store h w.writes
 
 places_certain : (p : ℕ) (bs : List ℕ) → Certain (PlacesRun p bs)
 places_certain p bs s r t h (inl m) = merges_certain p bs s r t h m
@@ -112,10 +104,10 @@ places_certain p bs s r t h (inr w) = direct_certain p bs s r t h w
 
 pub run_certain : (p : ℕ) (bs : List ℕ) → Certain (LaysRun p bs)
 run_certain p bs s r t h (inl m) = merges_certain p bs s r t h m
-run_certain p bs s r t h (inr (inl f)) = then_keeps sound_boxes (Flushes options.Plain) (PlacesRun p bs) flushes_certain (places_certain p bs) s r t h f.parts
+run_certain p bs s r t h (inr (inl f)) = then_keeps sound_boxes _ _ (flushes_certain options.Plain) (places_certain p bs) s r t h f.parts
 run_certain p bs s r t h (inr (inr w)) = direct_certain p bs s r t h w.1
 
 pub resize_certain : (n : ℕ) → Certain (ResizesBoxes n)
 resize_certain n s r t h (inl a) =
-    then_keeps sound_store (StoreWrites options.Plain Flush s.tip.offset (buffered s.tip)) (StoreResizes n) (plain_writes_sure Flush s.tip.offset (buffered s.tip)) (store_resizes_sure n) s.store r t.store h a.parts
+    then_keeps sound_store _ _ (store_writes_sure options.Plain Flush s.tip.offset (buffered s.tip)) (store_resizes_sure n) s.store r t.store h a.parts
 resize_certain n s r t h (inr w) = store_resizes_sure n s.store r t.store h w.resizes

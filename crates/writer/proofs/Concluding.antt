@@ -5,7 +5,7 @@ use Rattle.buffer.specs.declared.tip.Buffer.{Buffer}
 use Rattle.buffer.specs.Tip.{Merges}
 use Rattle.writer.specs.Stores.{Outcome}
 use Rattle.writer.specs.Boxes.{Boxes, boxes}
-use Rattle.writer.specs.Steps.{State, limit, Ready, Consistent, Concludes, whole}
+use Rattle.writer.specs.Steps.{State, limit, Fits, Ready, Consistent, Concludes, whole}
 use Rattle.writer.proofs.Ready.{Stays, tried_fits}
 
 module _ (s : State) (c : Consistent s) where
@@ -14,6 +14,10 @@ module _ (s : State) (c : Consistent s) where
 
   -- A call that was made: a fault closes the writer, so what it leaves of the tip and the blob need not fit.
   module _ (b : Boxes) (closed : Bool) (o : Outcome) (r : Result Unit Error) (k : Concludes o s.closed r closed) where
+    -- it fits again, or a fault has closed the writer
+    fits_after : (p : Outcome) → Stays s.boxes p b → Concludes p s.closed r closed → closed ≡ false → Fits b
+    fits_after p stays ends running = grind arith
+
     pub stays_consistent : Stays s.boxes o b → Consistent (whole b closed)
     stays_consistent stays = grind arith
 

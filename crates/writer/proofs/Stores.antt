@@ -1,5 +1,5 @@
 -- How a writer's calls of the blob make up its steps.
-use Rattle.std.proofs.Common.{◌≡◌, ℕ, true, false, List, IsErrAnd, Ok, Err, sym, refl, ap, subst₂, inr, arith}
+use Rattle.std.proofs.Common.{◌≡◌, ℕ, true, false, List, IsErrAnd, Ok, Err, sym, refl, ap, subst, subst₂, inr, arith}
 use Rattle.blob.specs.Meaning.{Disk, Answer, Syncs}
 use Rattle.buffer.specs.declared.error.Fault.{Fault}
 use Rattle.buffer.specs.declared.error.Step.{Step}
@@ -7,15 +7,28 @@ use Rattle.buffer.specs.declared.error.Step.TheVariants.{Sync}
 use Rattle.writer.specs.declared.sync_state.SyncState.{SyncState}
 use Rattle.writer.specs.declared.sync_state.SyncState.TheVariants.{Clean, Dirty, Pending}
 use Rattle.writer.specs.declared.sync_state.WriteOptions.{WriteOptions}
-use Rattle.writer.specs.Stores.{Store, Outcome, clean, Then, Asks, Follows, WaitsFrom, Waits, WritesFrom, StoreWrites, SyncsFrom}
+use Rattle.writer.specs.Stores.{Store, Outcome, clean, Then, Asks, Locates, WaitsFrom, Waits, WritesFrom, StoreWrites, SyncsFrom}
 
 -- the exit of a `?`
 pub exit : (R : Outcome → Type 0) (r : Outcome) (f : Fault) → IsErrAnd r (λ y. y ≡ f) → R (Err f) → R r
 exit R r f by k = grind arith
 
--- a call of the blob, once the state has followed its answer
-pub followed : (call : Disk → Answer → Disk → Type 0) (next : SyncState) (step : Step) (place : ℕ) (s t : Store) (a : Answer) (r : Outcome) → call s.disk a t.disk → Follows a next step place s.sync r t.sync → Asks call step place next s r t
-followed call next step place s t a r k f = grind arith
+-- the next state where the blob accepts, else the one before
+abbrev pub moved : SyncState → SyncState → Outcome → SyncState
+moved next before (Ok _) = next
+moved next before (Err fault) = before
+
+-- a state that was the next one already has moved to it, whatever the outcome
+pub stays_moved : (y before : SyncState) (r : Outcome) → before ≡ y → before ≡ moved y before r
+stays_moved y before (Ok _) e = e
+stays_moved y before (Err fault) e = refl
+
+-- a call of the blob, once its answer is told and the state has moved
+pub asked : (call : Disk → Answer → Disk → Type 0) (next : SyncState) (step : Step) (place : ℕ) (s t : Store) (a : Answer) (r : Outcome) → call s.disk a t.disk → Locates a step place r → t.sync ≡ moved next s.sync r → Asks call step place next s r t
+asked call next step place s t (Ok x) (Ok y) k l e = (k, e)
+asked call next step place s t (Ok x) (Err fault) k l e = absurd l
+asked call next step place s t (Err b) (Ok y) k l e = absurd l
+asked call next step place s t (Err b) (Err fault) k l e = (subst (λ b. call s.disk (Err b) t.disk) l.0 k, l.1, l.2, e)
 
 -- after waiting no sync is Pending
 settled_from : (y : SyncState) (s t : Store) → s.sync ≡ y → WaitsFrom y s (Ok tt) t → t.sync ≡ Pending → ⊥

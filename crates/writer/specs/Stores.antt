@@ -89,8 +89,3 @@ Locates (Ok _) step place (Ok _) = Unit {0}
 Locates (Ok _) step place (Err fault) = ⊥
 Locates (Err e) step place (Ok _) = ⊥
 Locates (Err e) step place (Err fault) = (e ≡ DeviceFault fault.code) × (fault.step ≡ step) × (fault.place ≡ place)
-
--- And the sync state with it: it becomes the next one where the blob accepts.
-abbrev pub Follows : Answer → SyncState → Step → ℕ → SyncState → Outcome → SyncState → Type 0
-Follows a next step place before (Ok _) after = (a ≡ Ok tt) × (after ≡ next)
-Follows a next step place before (Err fault) after = (a ≡ Err (DeviceFault fault.code)) × (fault.step ≡ step) × (fault.place ≡ place) × (after ≡ before)

@@ -1,6 +1,6 @@
 // Whether changes of the blob still need a sync, and the blob calls that change it.
 ghost use Rattle.std.specs.Prelude.{◌≡◌, ◌+◌, ◌≤◌, length};
-ghost use Rattle.writer.specs.Stores.{store, clean, Waits, StoreWrites, StoreResizes, StoreSyncs, Unrefused, Locates, Follows};
+ghost use Rattle.writer.specs.Stores.{store, clean, Waits, StoreWrites, StoreResizes, StoreSyncs, Unrefused, Locates};
 
 use blob::{Blob, BlobError};
 use buffer::error::{Fault, Step};
@@ -34,29 +34,14 @@ pub(crate) fn located(answer: Result<(), BlobError>, step: Step, place: u64) -> 
     }
 }
 
-// The blob is passed beside the state, as the ported code does it: a state's own calls match the state.
+// The blob stands beside the state, and each call moves to its next state itself: docs/DECISIONS.md keeps both forms,
+// the wait by `let .. else` and the match on the state and the options.
 impl SyncState {
     // A pattern, as in the ported code: `==` on one variant would be no plainer.
     pub(crate) fn is_clean(&self) -> bool
         ensures { result ≡ clean self.now }
     {
         matches!(self, SyncState::Clean)
-    }
-
-    // Takes the blob's answer to a call that leads to the state `next`. A fault leaves the state.
-    fn follow(
-        &mut self,
-        answer: Result<(), BlobError>,
-        next: SyncState,
-        step: Step,
-        place: u64,
-    ) -> Result<(), Fault>
-        requires { Unrefused answer }
-        ensures { Follows answer next step place self.old result self.new }
-    {
-        located(answer, step, place)?;
-        *self = next;
-        Ok(())
     }
 
     // Waits for a started sync, before the blob is changed.
@@ -66,7 +51,9 @@ impl SyncState {
         let SyncState::Pending = self else {
             return Ok(());
         };
-        self.follow(blob.finish_sync(), SyncState::Clean, Step::Wait, 0)
+        located(blob.finish_sync(), Step::Wait, 0)?;
+        *self = SyncState::Clean;
+        Ok(())
     }
 
     // Writes the bytes to the blob. A fault names `step`.
@@ -84,20 +71,21 @@ impl SyncState {
         self.wait_for_pending(blob)?;
         match (&*self, options) {
             (_, WriteOptions::Plain) => {
-                self.follow(blob.write_at(place, bytes), SyncState::Dirty, step, place)
+                located(blob.write_at(place, bytes), step, place)?;
+                *self = SyncState::Dirty;
+                Ok(())
             }
-            (SyncState::Clean, WriteOptions::Sync) => {
-                self.follow(
-                    blob.write_at_sync(place, bytes),
-                    SyncState::Clean,
-                    step,
-                    place,
-                )
-            }
+            (SyncState::Clean, WriteOptions::Sync) => located(
+                blob.write_at_sync(place, bytes),
+                step,
+                place,
+            ),
             (SyncState::Dirty, WriteOptions::Sync) => {
                 // Earlier changes need the sync too.
-                self.follow(blob.write_at(place, bytes), SyncState::Dirty, step, place)?;
-                self.follow(blob.sync(), SyncState::Clean, Step::Sync, 0)
+                located(blob.write_at(place, bytes), step, place)?;
+                located(blob.sync(), Step::Sync, 0)?;
+                *self = SyncState::Clean;
+                Ok(())
             }
             (SyncState::Pending, WriteOptions::Sync) => unreachable(),
         }
@@ -108,7 +96,9 @@ impl SyncState {
         ensures { StoreResizes len (store (B.disk blob.old) self.old) result (store (B.disk blob.new) self.new) }
     {
         self.wait_for_pending(blob)?;
-        self.follow(blob.resize(len), SyncState::Dirty, Step::Resize, len)
+        located(blob.resize(len), Step::Resize, len)?;
+        *self = SyncState::Dirty;
+        Ok(())
     }
 
     pub(crate) fn sync<B: Blob>(&mut self, blob: &mut B) -> Result<(), Fault>
@@ -118,6 +108,8 @@ impl SyncState {
         if self.is_clean() {
             return Ok(());
         }
-        self.follow(blob.sync(), SyncState::Clean, Step::Sync, 0)
+        located(blob.sync(), Step::Sync, 0)?;
+        *self = SyncState::Clean;
+        Ok(())
     }
 }

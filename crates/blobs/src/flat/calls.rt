@@ -62,13 +62,13 @@ impl FlatBlob {
         &self.area[self.limit..self.limit + self.durable_len]
     }
 
-    // Puts the bytes at `start`, up to `end`, with zeros in a gap before them.
-    fn lay(&mut self, start: usize, end: usize, bytes: &[u8])
-        requires { (end ≡ start + length bytes.now) × (end ≤ self.old.limit) × (0 < length bytes.now) }
+    // Puts the bytes at `start`, with zeros in a gap before them.
+    fn lay(&mut self, start: usize, bytes: &[u8])
+        requires { (start + length bytes.now ≤ self.old.limit) × (0 < length bytes.now) }
         ensures { shape self.new ≡ wrote (shape self.old) start bytes.now }
     {
         lay(&mut self.area, self.len, start, bytes);
-        self.len = self.len.max(end);
+        self.len = self.len.max(start + bytes.len());
         self.started = StartedSync::Idle;
     }
 
@@ -136,8 +136,8 @@ impl Blob for FlatBlob {
             return Ok(());
         }
         let start = place as usize;
-        let end = end_within(start, bytes.len(), self.limit).ok_or(BlobError::NoRoom)?;
-        self.lay(start, end, bytes);
+        end_within(start, bytes.len(), self.limit).ok_or(BlobError::NoRoom)?;
+        self.lay(start, bytes);
         Ok(())
     }
 

@@ -1,7 +1,9 @@
-use Rattle.std.proofs.Common.{sym}
+use Rattle.std.proofs.Common.{Ok, sym, refl}
 use Rattle.blob.specs.Meaning.{Syncs}
-use Rattle.writer.specs.Stores.{store, Waits, SyncsFrom}
-use Rattle.writer.proofs.Stores.{settled, syncs_clean, syncs_dirty, followed, goes}
+use Rattle.buffer.specs.declared.error.Step.TheVariants.{Sync}
+use Rattle.writer.specs.declared.sync_state.SyncState.TheVariants.{Clean}
+use Rattle.writer.specs.Stores.{store}
+use Rattle.writer.proofs.Stores.{settled, syncs_clean, syncs_dirty, asked}
 use Rattle.writer.proofs.sync_state.SyncState.sync.Goals as goal
 
 pub returns-then-is_clean : goal.returns-then-is_clean
@@ -12,9 +14,7 @@ returns-then-is_clean g c =
 pub returns : goal.returns
 returns g c =
     let disk = g.B.Blob.disk in
-    let s = store (disk c.args.blob.now) c.args.self.now in
     let m = store (disk c.wait_for_pending.new.blob) c.wait_for_pending.new.self in
-    let t = store (disk c.sync.new.self) c.follow.new.self in
+    let t = store (disk c.sync.new.self) Clean in
     let waits = c.in_ok-wait_for_pending.ensures in
-    goes Waits (λ s. SyncsFrom s.sync s) s m c.follow.result t waits
-    (syncs_dirty m c.follow.result t (sym c.if-is_clean.ensures) (settled s m waits) (followed Syncs _ _ _ m t _ c.follow.result c.sync.ensures c.follow.ensures))
+    (m, waits, syncs_dirty m (Ok tt) t (sym c.if-is_clean.ensures) (settled _ m waits) (asked Syncs Clean Sync 0 m t _ (Ok tt) c.sync.ensures c.in_ok-located.ensures refl))
