@@ -1,4 +1,5 @@
 pub mod Splits
+pub mod Scans
 pub mod Cuts
 pub mod Digits
 pub mod Places

@@ -45,11 +45,31 @@ module _ (ws : List (Bor (List ℕ))) (from : ℕ) (s : Skip (Enumerate (Iter (B
 abbrev pub Left : {X Y : Type 0} → (ℕ → List ℕ → Result X Mistake) → List (Bor (List ℕ)) → ℕ → (List X → Y) → Result Y Mistake
 Left rule ws k F = all_as rule k (drop k (contents ws)) then λ xs. Ok (F xs)
 
-shifted : {X Y : Type 0} (x : X) (F F' : List X → Y) (rest : Result (List X) Mistake) → ((xs : List X) → F (x ∷ xs) ≡ F' xs) → (rest then λ xs. Ok (F' xs)) ≡ ((rest then λ xs. Ok (x ∷ xs)) then λ xs. Ok (F xs))
-shifted x F F' (Ok xs) same = ap Ok (sym (same xs))
-shifted x F F' (Err m) same = refl
+-- a loop that reads word after word: F makes its result of what it has read and what the words from k on hold
+module _ {X Y : Type 0} (rule : ℕ → List ℕ → Result X Mistake) (ws : List (Bor (List ℕ))) (k : ℕ) (F : List X → Y) (all : Result Y Mistake) (e : (all_as rule k (drop k (contents ws)) then λ xs. Ok (F xs)) ≡ all) where
+  next : (d : Bor (List ℕ)) → k < length ws → ((rule k (get_or ws k d).now then λ x. all_as rule (k + 1) (drop (k + 1) (contents ws)) then λ xs. Ok (x ∷ xs)) then λ xs. Ok (F xs)) ≡ all
+  next d h =
+      let long : k < length (contents ws) = rw (length-map ws (λ (s : Bor (List ℕ)). s.now)) h in
+      ap (λ w. (rule k w then λ x. all_as rule (k + 1) (drop (k + 1) (contents ws)) then λ xs. Ok (x ∷ xs)) then λ xs. Ok (F xs)) (sym (content_there ws k d h))
+      ∙ ap (λ l. all_as rule k l then λ xs. Ok (F xs)) (sym (drop_more (contents ws) k [] long))
+      ∙ e
 
--- a loop over the numbered words that has taken `taken`, and makes its result by F of what is still to be read
+  shifted : (x : X) (F' : List X → Y) (rest : Result (List X) Mistake) → ((xs : List X) → F (x ∷ xs) ≡ F' xs) → (rest then λ xs. Ok (F' xs)) ≡ ((rest then λ xs. Ok (x ∷ xs)) then λ xs. Ok (F xs))
+  shifted x F' (Ok xs) same = ap Ok (sym (same xs))
+  shifted x F' (Err m) same = refl
+
+  pub one_more : (d : Bor (List ℕ)) (x : X) (F' : List X → Y) → k < length ws → rule k (get_or ws k d).now ≡ Ok x → ((xs : List X) → F (x ∷ xs) ≡ F' xs) → (all_as rule (k + 1) (drop (k + 1) (contents ws)) then λ xs. Ok (F' xs)) ≡ all
+  one_more d x F' h r same = shifted x F' (all_as rule (k + 1) (drop (k + 1) (contents ws))) same ∙ (rw r at (next d h))
+
+  pub stops : (d : Bor (List ℕ)) (m : Mistake) → k < length ws → rule k (get_or ws k d).now ≡ Err m → Err m ≡ all
+  stops d m h r = rw r at (next d h)
+
+  pub all_read : length ws ≤ k → Ok (F []) ≡ all
+  all_read h =
+      let long : length (contents ws) ≤ k = rw (length-map ws (λ (s : Bor (List ℕ)). s.now)) h in
+      ap (λ l. all_as rule k l then λ xs. Ok (F xs)) (sym (drop_all k (contents ws) long)) ∙ e
+
+-- the same of a loop over the numbered words that has taken `taken`
 module _ {X Y : Type 0} (rule : ℕ → List ℕ → Result X Mistake) (ws : List (Bor (List ℕ))) (from : ℕ) (F : List X → Y) (all : Result Y Mistake) (taken : List (ℕ × Bor (Bor (List ℕ)))) (e : Left rule ws (from + length taken) F ≡ all) where
   module _ (i : ℕ) (b : Bor (Bor (List ℕ))) (turn : (length taken < length (numbered from ws)) × ◌≡◌ {A = ℕ × Bor (List ℕ)} (i, b.now) (get_or (numbered from ws) (length taken) (i, b.now))) where
     within : from + length taken < length ws
@@ -62,29 +82,21 @@ module _ {X Y : Type 0} (rule : ℕ → List ℕ → Result X Mistake) (ws : Lis
         (ap (λ (p : ℕ × Bor (List ℕ)). rule p.0 p.1.now)
         (turn.1 ∙ get_or-drop from (enumerate_from 0 ws) (length taken) (i, b.now) ∙ get_or-enumerate_from 0 ws (from + length taken) (i, b.now) within))
 
-    next : ((rule i b.now.now then λ x. all_as rule (from + length taken + 1) (drop (from + length taken + 1) (contents ws)) then λ xs. Ok (x ∷ xs)) then λ xs. Ok (F xs)) ≡ all
-    next =
-        let k = from + length taken in
-        let long : k < length (contents ws) = rw (length-map ws (λ (s : Bor (List ℕ)). s.now)) within in
-        ap (λ r. (r then λ x. all_as rule (k + 1) (drop (k + 1) (contents ws)) then λ xs. Ok (x ∷ xs)) then λ xs. Ok (F xs)) (is ∙ ap (rule k) (sym (content_there ws k b.now within)))
-        ∙ ap (λ l. all_as rule k l then λ xs. Ok (F xs)) (sym (drop_more (contents ws) k [] long))
-        ∙ e
+    pub one_taken : (x : X) (F' : List X → Y) → rule i b.now.now ≡ Ok x → ((xs : List X) → F (x ∷ xs) ≡ F' xs) → Left rule ws (from + length (taken ++ ((i, b) ∷ []))) F' ≡ all
+    one_taken x F' r same =
+        let after : from + length (taken ++ ((i, b) ∷ [])) ≡ from + length taken + 1 = omega (arith, length_push taken (i, b)) in
+        rw after (one_more rule ws (from + length taken) F all e b.now x F' within (sym is ∙ r) same)
 
-    pub one_more : (x : X) (F' : List X → Y) → rule i b.now.now ≡ Ok x → ((xs : List X) → F (x ∷ xs) ≡ F' xs) → Left rule ws (from + length (taken ++ ((i, b) ∷ []))) F' ≡ all
-    one_more x F' r same =
-        let k = from + length taken in
-        let after : from + length (taken ++ ((i, b) ∷ [])) ≡ k + 1 = omega (arith, length_push taken (i, b)) in
-        rw after (shifted x F F' (all_as rule (k + 1) (drop (k + 1) (contents ws))) same ∙ (rw r at next))
+    pub stops_taken : (m : Mistake) → rule i b.now.now ≡ Err m → Err m ≡ all
+    stops_taken m r = stops rule ws (from + length taken) F all e b.now m within (sym is ∙ r)
 
-    pub stops : (m : Mistake) → rule i b.now.now ≡ Err m → Err m ≡ all
-    stops m r = rw r at next
+  pub all_taken : length taken ≡ length (numbered from ws) → Ok (F []) ≡ all
+  all_taken n = all_read rule ws (from + length taken) F all e (omega (arith, length-numbered from ws))
 
-  pub all_read : length taken ≡ length (numbered from ws) → Ok (F []) ≡ all
-  all_read n =
-      let k = from + length taken in
-      let past : length ws ≤ k = omega (arith, length-numbered from ws) in
-      let long : length (contents ws) ≤ k = rw (length-map ws (λ (s : Bor (List ℕ)). s.now)) past in
-      ap (λ l. all_as rule k l then λ xs. Ok (F xs)) (sym (drop_all k (contents ws) long)) ∙ e
+-- a result, passed on as it is
+pub then_ok : {X : Type 0} (r : Result X Mistake) → (r then λ x. Ok x) ≡ r
+then_ok (Ok x) = refl
+then_ok (Err m) = refl
 
 pub pushed_before : {X : Type 0} (out out' : List X) (x : X) → out' ≡ out ++ (x ∷ []) → (xs : List X) → out ++ (x ∷ xs) ≡ out' ++ xs
 pushed_before out out' x e xs = sym (append_assoc out (x ∷ []) xs) ∙ ap (λ l. l ++ xs) (sym e)

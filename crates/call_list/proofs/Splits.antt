@@ -1,8 +1,9 @@
 -- The parts that `split` gives at blanks, without the empty ones, are the words of a line. Assumes nothing.
-use Rattle.std.proofs.Common.{◌≡◌, ℕ, Bool, not, List, [], ◌∷◌, ◌++◌, length, ◌==◌, sym, refl, ap, ◌∙◌, ⊎_elim, append_assoc, append-nil, arith}
-use Rattle.std.specs.List.{filter, slice_split, onto_first}
+use Rattle.std.proofs.Common.{◌≡◌, ℕ, ◌+◌, ◌-◌, ◌<◌, Bool, not, List, [], ◌∷◌, ◌++◌, length, get_or, take, drop, ◌==◌, sym, refl, ap, ◌∙◌, ⊎_elim, append_assoc, append-nil, arith, Bor}
+use Rattle.std.specs.List.{between, filter, slice_split, onto_first}
 use Rattle.std.proofs.lemmas.Bool.{cases_Bool, ne_eqb}
-use Rattle.call_list.specs.Line.{blank, ended, split, words_of}
+use Rattle.std.proofs.lemmas.List.{drop_more}
+use Rattle.call_list.specs.Line.{blank, ended, split, words_of, contents}
 
 abbrev pub some : List ℕ → Bool
 some w = not (length w == 0)
@@ -39,3 +40,21 @@ of_parts before (b ∷ bs) =
 
 pub are_parts : (bs : List ℕ) → filter some (slice_split blank bs) ≡ words_of bs
 are_parts bs = ap (filter some) (sym (under_none bs)) ∙ of_parts [] bs
+
+-- a word with a byte ends as that one word
+pub ended_some : (w : List ℕ) → 0 < length w → ended w ≡ w ∷ []
+ended_some [] h = absurd (omega arith)
+ended_some (b ∷ bs) h = refl
+
+-- a word with no bytes adds none
+pub added_none : (ws : List (Bor (List ℕ))) (w : List ℕ) → length w ≡ 0 → contents ws ≡ contents ws ++ ended w
+added_none ws [] h = sym (append-nil (contents ws))
+added_none ws (b ∷ bs) h = absurd (omega arith)
+
+-- nothing stands between a place and itself
+pub none_between : (line : List ℕ) (i : ℕ) → between i i line ≡ []
+none_between line i = let z : i - i ≡ 0 = omega arith in ap (λ n. take n (drop i line)) z
+
+-- the words of what is left of a line, with its next byte apart
+pub at_next : (ws all : List (List ℕ)) (line : List ℕ) (s i : ℕ) (h : i < length line) (e : ws ++ split (between s i line) (drop i line) ≡ all) → ws ++ split (between s i line) (get_or line i 0 ∷ drop (i + 1) line) ≡ all
+at_next ws all line s i h e = ap (λ l. ws ++ split (between s i line) l) (sym (drop_more line i 0 h)) ∙ e

@@ -1,6 +1,7 @@
 //! The calls that a line can name.
 
 /// One piece of an area: `len` bytes from `start` on.
+// Not the `Piece` of the crate `buffer`: this has a line's 64-bit numbers, tests compare its printed form, and this crate needs none of the writer's.
 #[derive(Clone, Copy, Debug)]
 pub struct Span {
     pub start: u64,

@@ -88,6 +88,7 @@ fn write_at(args: &Args) -> Result<Call, Mistake>
     })
 }
 
+// Not one function with `write_at`, which makes its area of the words of its pieces: this reads an area, then a pair for each piece.
 fn write_pieces(args: &Args) -> Result<Call, Mistake>
     ensures { Reads plain result (write_pieces_of (contents args.now.words.now)) }
 {
@@ -124,7 +125,7 @@ fn call_named(args: &Args, name: &str) -> Result<Call, Mistake>
 }
 
 /// The call that the words of a line are, of which `name` is the first.
-#[tactic(auto, using(crate::proofs::Names::no_text))]
+#[tactic(auto, using(crate::proofs::Names::no_call))]
 fn read_call(args: &Args, name: &[u8]) -> Result<Call, Mistake>
     ensures { Reads plain result (named name.now (table_of (contents args.now.words.now))) }
 {
@@ -134,11 +135,10 @@ fn read_call(args: &Args, name: &[u8]) -> Result<Call, Mistake>
     }
 }
 
-/// A pattern on the first byte, which a test by `==` would not make plainer.
 fn is_comment(line: &[u8]) -> bool
     ensures { result ≡ comment line.now }
 {
-    matches!(line, [b'#', ..])
+    line.starts_with(b"#")
 }
 
 /// The call that a line is, `None` where the line is to be skipped. The line comes without its newline.

@@ -1,12 +1,12 @@
 //! What one word stands for: a number, bytes, a pair of numbers.
-ghost use Rattle.std.specs.Prelude.{◌≡◌, ◌%◌, ◌<◌, ◌==◌, length, position, IfOk, vec_items};
-ghost use Rattle.std.specs.Option.{unwrap_or};
+ghost use Rattle.std.specs.Prelude.{◌≡◌, ◌==◌, position, vec_items};
 ghost use Rattle.call_list.specs.Line.{every};
-ghost use Rattle.call_list.specs.Values.{is_digit, is_hex, number_of, hex_digit, byte_of, bytes_of, hex_of, pair_of, Reads};
+ghost use Rattle.call_list.specs.Values.{is_digit, is_hex, number_of, hex_of, pair_of, Reads};
 
 use crate::calls::Span;
 use crate::mistakes::Mistake;
-use std::alloc::{AllocError, Global};
+use hex::FromHexError;
+use std::alloc::Global;
 use std::str::from_utf8;
 
 /// A word of a line, with its number in the line, for the mistake.
@@ -22,39 +22,11 @@ fn all_digits(bytes: &[u8]) -> bool
     bytes.iter().all(|b| b.is_ascii_digit())
 }
 
-// The crate `hex` takes capitals too: its `decode` would need this test before it, and its errors turned into mistakes.
-fn hex_digit(b: u8) -> Option<u8>
-    ensures value { result ≡ hex_digit b }
-    ensures small { unwrap_or result 0 < 16 }
-{
-    match b {
-        b'0'..=b'9' => Some(b - b'0'),
-        b'a'..=b'f' => Some(b - b'a' + 10),
-        _ => None,
-    }
-}
-
+// The test that `hex::decode` lacks: it takes capitals too.
 fn all_hex(bytes: &[u8]) -> bool
     ensures { result ≡ every is_hex bytes.now }
 {
-    bytes.iter().all(|b| hex_digit(*b).is_some())
-}
-
-fn hex_byte(high: u8, low: u8) -> u8
-    ensures { result ≡ byte_of high low }
-{
-    16 * hex_digit(high).unwrap_or(0) + hex_digit(low).unwrap_or(0)
-}
-
-/// The bytes of an even number of digits.
-fn hex_bytes(heap: Global, digits: &[u8]) -> Result<Vec<u8>, AllocError>
-    ensures { IfOk result (λ v. v.items ≡ bytes_of digits.now) }
-{
-    let (pairs, _) = digits.as_chunks::<2>();
-    pairs
-        .iter()
-        .map(|[high, low]| hex_byte(*high, *low))
-        .collect(heap)
+    bytes.iter().all(|b| matches!(b, b'0'..=b'9' | b'a'..=b'f'))
 }
 
 /// The place of the first comma.
@@ -80,6 +52,7 @@ impl Word<'_> {
     }
 
     /// The bytes of a word of digits; `-` stands for none.
+    #[tactic(auto, using(crate::proofs::Digits::decoded_word))]
     pub fn hex(&self, heap: Global) -> Result<Vec<u8>, Mistake>
         ensures { Reads vec_items result (hex_of self.now.index self.now.bytes.now) }
     {
@@ -89,10 +62,12 @@ impl Word<'_> {
         if !all_hex(self.bytes) {
             return Err(Mistake::NotHexadecimal(self.index));
         }
-        if self.bytes.len() % 2 != 0 {
-            return Err(Mistake::OddDigits(self.index));
-        }
-        Ok(hex_bytes(heap, self.bytes)?)
+        let index = self.index;
+        hex::decode(heap, self.bytes).map_err(|e| match e {
+            FromHexError::OutOfMemory => Mistake::OutOfMemory,
+            FromHexError::OddLength => Mistake::OddDigits(index),
+            _ => Mistake::NotHexadecimal(index),
+        })
     }
 
     /// `START,LENGTH`, cut at the first comma.
