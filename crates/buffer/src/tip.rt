@@ -85,7 +85,8 @@ impl Buffer {
     }
 
     // Merges the run into the tip where it fits between the offset and the capacity. A gap in the tip
-    // becomes zeros. Answers whether it fitted; where it did not, nothing has changed.
+    // becomes zeros. Answers whether it fitted; where it did not, nothing has changed. A place and a run beside it,
+    // as the ported code has them.
     #[tactic(auto, using(blob::proofs::Parts::part_writes, crate::proofs::Tips::merges))]
     pub fn merge(&mut self, place: u64, run: &[u8]) -> bool
         requires { Sized self.old }

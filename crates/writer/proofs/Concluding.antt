@@ -8,16 +8,16 @@ use Rattle.writer.specs.Boxes.{Boxes, boxes}
 use Rattle.writer.specs.Steps.{State, limit, Fits, Ready, Consistent, Concludes, whole}
 use Rattle.writer.proofs.Ready.{Stays, tried_fits}
 
+-- After a call that was made the tip and the blob fit again, or a fault has closed the writer.
+fits_after : (s : State) (b : Boxes) (closed : Bool) (o : Outcome) (r : Result Unit Error) (k : Concludes o s.closed r closed) (p : Outcome) → Stays s.boxes p b → Concludes p s.closed r closed → closed ≡ false → Fits b
+fits_after s b closed o r k p stays ends running = grind arith
+
 module _ (s : State) (c : Consistent s) where
   pub ready : s.closed ≡ false → Ready s.boxes
   ready running = grind arith
 
   -- A call that was made: a fault closes the writer, so what it leaves of the tip and the blob need not fit.
   module _ (b : Boxes) (closed : Bool) (o : Outcome) (r : Result Unit Error) (k : Concludes o s.closed r closed) where
-    -- it fits again, or a fault has closed the writer
-    fits_after : (p : Outcome) → Stays s.boxes p b → Concludes p s.closed r closed → closed ≡ false → Fits b
-    fits_after p stays ends running = grind arith
-
     pub stays_consistent : Stays s.boxes o b → Consistent (whole b closed)
     stays_consistent stays = grind arith
 

@@ -116,7 +116,7 @@ impl<B: Blob> Write<B> {
     }
 
     // Merges the run into the tip if it fits there, and answers whether it did. It asks nothing of the blob
-    // but its limit.
+    // but its limit. A place and a run beside it, as the ported code has them.
     pub fn try_write_at(&mut self, place: u64, run: &[u8]) -> bool
         ensures { TryWriteAt (view self.old) place run.now result (view self.new) }
     {
