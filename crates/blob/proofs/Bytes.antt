@@ -1,7 +1,7 @@
 -- Laws of the byte arrays: the length, and the byte at each place, after a write and after a resize.
-use Rattle.std.proofs.Common.{◌≡◌, ℕ, ◌+◌, ◌-◌, ◌<◌, ◌≤◌, max, List, [], ◌∷◌, ◌++◌, length, take, drop, replicate, refl, ap, inl, arith}
+use Rattle.std.proofs.Common.{◌≡◌, ℕ, ◌+◌, ◌-◌, ◌<◌, ◌≤◌, max, List, [], ◌∷◌, ◌++◌, length, take, drop, replicate, refl, ap, inl, inr, arith}
 use Rattle.std.proofs.lemmas.List.{get_or_past, get_or_append_left, get_or-append_right, get_or-replicate}
-use Rattle.std.proofs.lemmas.Grind.{common_steps}
+use Rattle.std.proofs.lemmas.Grind.{common_steps, same_number_lists}
 use Rattle.blob.specs.Bytes.{at, laid, resized, Mixed}
 
 -- a filled write, written out
@@ -28,7 +28,7 @@ length-laid_within c p bs fits = grind (arith, length-laid, laid_nothing)
 pub at-zeros : (n k : ℕ) → at (replicate n 0) k ≡ 0
 at-zeros n k = grind (arith, common_steps, get_or_past, get_or-replicate)
 
-at-padded : (c : List ℕ) (n k : ℕ) → at (c ++ replicate n 0) k ≡ at c k
+pub at-padded : (c : List ℕ) (n k : ℕ) → at (c ++ replicate n 0) k ≡ at c k
 at-padded c n k = grind (arith, common_steps, get_or-append_right, get_or_append_left, get_or_past, at-zeros)
 
 -- a write stands at its places
@@ -50,6 +50,13 @@ pub at-resized : (c : List ℕ) (n k : ℕ) → k < n → at (resized c n) k ≡
 unfolding resized
 at-resized c n k low = grind (arith, common_steps, at-padded)
 
--- what stays is mixed
+-- two arrays of one length that agree at each place
+pub same_bytes : (c d : List ℕ) → length c ≡ length d → ((k : ℕ) → k < length c → at c k ≡ at d k) → c ≡ d
+same_bytes c d same each = same_number_lists c d same each
+
+-- what stays is mixed, and so is what becomes new
 pub mixed_old : (old new after : List ℕ) → after ≡ old → Mixed old new after
 mixed_old old new after same = record { bytes = λ k. inl (ap (λ x. at x k) same); size = inl (ap length same) }
+
+pub mixed_new : (old new : List ℕ) → Mixed old new new
+mixed_new old new = record { bytes = λ k. inr refl; size = inr refl }

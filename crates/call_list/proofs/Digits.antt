@@ -1,40 +1,52 @@
 -- What a word of digits is worth. Assumes nothing.
-use Rattle.std.proofs.Common.{◌≡◌, ℕ, ◌<◌, ◌^◌, true, false, List, [], ◌∷◌, length, Ok, Err, Result, refl, ap, IsUtf8, rules, arith, ◌==◌, ◌%◌, ◌+◌, ◌*◌, Some, unwrap_or, cond, inl, inr, ◌∙◌, MatchResult, ⊎_elim, nat_lt}
-use Rattle.std.proofs.Math.Bool.{or-true}
-use Rattle.std.specs.Result.{OkIff}
-use Rattle.std.proofs.lemmas.Bool.{and_parts, cases_eq, lt-ltb, le-ltb, ltb-false, ltb-true, eqb-false, cases_Bool}
+use Rattle.std.proofs.Common.{◌≡◌, ℕ, ◌+◌, ◌-◌, ◌*◌, ◌%◌, ◌^◌, ◌≤◌, ◌==◌, Bool, true, false, List, [], ◌∷◌, length, Option, Some, None, MatchOption, unwrap_or, Ok, Err, cond, refl, ap, subst, ◌∙◌, inl, inr, arith, Bor}
+use Rattle.std.proofs.lemmas.Bool.{and_parts, cases_eq}
 use Rattle.std.proofs.lemmas.Grind.{common_steps}
-use Rattle.std.proofs.lemmas.Fmt.{IsAscii-from_digits}
-use Rattle.std.proofs.lemmas.Str.{IsUtf8-from_ascii}
-use Rattle.std.proofs.lemmas.Str.Parse.{IsNumeralModel, numerals_by_fold}
-use Rattle.call_list.specs.declared.mistakes.Mistake.{Mistake}
-use Rattle.call_list.specs.declared.mistakes.Mistake.TheVariants.{NotANumber, NumberTooLarge}
+use denote.Param.Members.{Mut}
+use Rattle.std.specs.Bool.{MatchBool}
+use Rattle.std.specs.ControlFlow.{continue_value}
+use Rattle.std.specs.Fn.{Called}
+use Rattle.std.specs.Iterator.Runs.{Run, ItemsMapTo, ActsAsWhileContinuing, IsTryFoldRun}
+use Rattle.std.specs.List.{fold}
 use Rattle.call_list.specs.Line.{every}
-use Rattle.call_list.specs.Values.{is_digit, value_after, value_of, number_of, byte_of, bytes_of, hex_digit, is_hex}
+use Rattle.call_list.specs.Values.{value_after, value_of, byte_of, bytes_of, hex_digit, is_hex}
 use Rattle.hex.specs.Hex.{hex_digit_value, decode_pairs, decode_of}
 use Rattle.hex.specs.declared.error.FromHexError.TheVariants.{OddLength}
 
--- the digits and their value, in the words of the lemmas on `parse`
-pub decimal : IsNumeralModel (λ bs. every is_digit bs ≡ true) value_of
-decimal = numerals_by_fold _ (search rules) value_after (search rules)
+-- the value of digits is a fold over them
+pub by_fold : (n : ℕ) (bs : List ℕ) → fold (λ n b. 10 * n + (b - 48)) n bs ≡ value_after n bs
+by_fold n [] = refl
+by_fold n (b ∷ bs) = by_fold (10 * n + (b - 48)) bs
 
-pub digits_are_text : (bs : List ℕ) → every is_digit bs ≡ true → IsUtf8 bs
-digits_are_text bs e = IsUtf8-from_ascii bs (IsAscii-from_digits bs (decimal.to bs e))
+-- what a closure answers that takes the value so far and one more digit, and fails where the two do not fit
+abbrev pub Adds : Option ℕ → ℕ → ℕ → Type 0
+Adds r n b = MatchOption r (2 ^ 64 ≤ 10 * n + (b - 48)) (λ m. m ≡ 10 * n + (b - 48))
 
-module _ (k : ℕ) (bs : List ℕ) where
-  none_of_others : every is_digit bs ≡ false → Err (NotANumber k) ≡ number_of k bs
-  none_of_others e = rw (e, or-true (length bs == 0))
+-- the two cases of `MatchBool`
+either : {P Q G : Type 0} (b : Bool) → MatchBool b P Q → (b ≡ true → P → G) → (Q → G) → G
+either true h f g = f refl h
+either false h f g = g h
 
-  pub none_of_no_text : (IsUtf8 bs → ⊥) → Err (NotANumber k) ≡ number_of k bs
-  none_of_no_text h = ⊎_elim (λ t. absurd (h (digits_are_text bs t))) none_of_others (cases_Bool (every is_digit bs))
+-- one digit more
+abbrev added : ℕ → Bor ℕ → ℕ
+added n x = 10 * n + (x.now - 48)
 
-  -- r is what `parse` gives, and `out` the result made of it
-  pub parsed : {E : Type 0} (r : Result ℕ E) (out : Result ℕ Mistake) → (length bs == 0) ≡ false → every is_digit bs ≡ true → OkIff r ((0 < length bs) × (value_of bs < 2 ^ 64)) (value_of bs) → MatchResult r (λ n. out ≡ Ok n) (λ _. out ≡ Err (NumberTooLarge k)) → out ≡ number_of k bs
-  parsed (Ok n) out s e h is = rw (s, e, lt-ltb (value_of bs) (2 ^ 64) h.0.1) (is ∙ ap Ok h.1)
-  parsed (Err m) out s e h is =
-      ⊎_elim (λ t. absurd (h (omega (arith, eqb-false (length bs) 0 s), ltb-true (value_of bs) (2 ^ 64) t)))
-      (λ f. rw (s, e, le-ltb (value_of bs) (2 ^ 64) (ltb-false (value_of bs) (2 ^ 64) f)) is)
-      (cases_Bool (nat_lt (value_of bs) (2 ^ 64)))
+-- what `try_fold` makes of the bytes of a slice by such a closure
+module _ (X : Type 0) {S F : Type 0} {steps : S → Option (Bor ℕ) → S → Type 0} (p : Run steps) (bs : List ℕ) (items : ItemsMapTo p (λ y. y.now) bs) (g : Mut F (ℕ × (Bor ℕ × Unit {0})) (Option ℕ)) (f : F)
+    (adds : (n : ℕ) (x : Bor ℕ) (v : Option ℕ) (q : F) → Called g f (n, (x, tt)) v q → (q ≡ f) × Adds v n x.now) where
+  goes_on : ActsAsWhileContinuing p {E = X} g f (λ v c. v ≡ continue_value c) added
+  goes_on n x v c q call on = let k = adds n x v q call in (k.0, subst (λ o. Adds o n x.now) on k.1)
+
+  pub digits_folded : (r : Option ℕ) → IsTryFoldRun p {E = X} g f (λ v c. v ≡ continue_value c) (λ _ r. r ≡ None) 0 r → MatchOption r (2 ^ 64 ≤ value_of bs) (λ n. n ≡ value_of bs)
+  digits_folded r t =
+      either p.whole t
+      (λ w h. rw h.1 (h.2 added goes_on ∙ items.5 (λ n b. 10 * n + (b - 48)) 0 w ∙ by_fold 0 bs))
+      (λ h.
+      let l = h.3 in
+      let last = l.9 added goes_on in
+      let past = (adds l.1 l.0 l.2 l.4 (subst (λ q. Called g q (l.1, (l.0, tt)) l.2 l.4) last.1 l.7)).1 in
+      let much : 2 ^ 64 ≤ added l.1 l.0 = subst (λ o. Adds o l.1 l.0.now) l.8 past in
+      rw h.1 (omega (arith, much, last.0, items.7 (λ n b. 10 * n + (b - 48)) 0 (λ n b. omega arith), by_fold 0 bs)))
 
 -- a digit has the value that the crate `hex` gives it
 digit_same : (b : ℕ) → is_hex b ≡ true → hex_digit_value b ≡ Some (unwrap_or (hex_digit b) 0)

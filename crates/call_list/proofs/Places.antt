@@ -1,7 +1,8 @@
--- Loops that read the words of a line one after another. Assumes nothing.
+-- A word at its place in the slices that hold the words, and loops that read word after word. Assumes nothing.
 use Rattle.std.proofs.Common.{◌≡◌, ℕ, ◌+◌, ◌-◌, ◌<◌, ◌≤◌, List, [], ◌∷◌, ◌++◌, length, get_or, take, drop, Ok, Err, Result, sym, refl, ap, ◌∙◌, append_assoc, append-nil, arith, Bor, Iter, Option, Some, None}
 use Rattle.std.specs.List.{flat_map, enumerate_from}
 use Rattle.std.proofs.lemmas.List.{length-map, length-append, length-drop, length_push, get_or-map, get_or-drop, drop_more, drop_all, drop_at, take_at}
+use Rattle.std.proofs.lemmas.Bool.{lt-ltb, le-ltb}
 use Rattle.std.proofs.lemmas.List.FromFn.{length-enumerate_from, get_or-enumerate_from}
 use Rattle.std.specs.Iterator.{Yields}
 use Rattle.std.specs.Iterator.Adapters.{skip_source, skip_count, skip_steps, enumerate_source, enumerate_count, enumerate_steps}
@@ -14,12 +15,21 @@ use Rattle.std.proofs.lemmas.Iterator.Adapters.{YieldsList-from_skip}
 use Rattle.std.proofs.lemmas.Iterator.Consumers.{YieldsList-from_enumerate, YieldsList-turn, YieldsList-end}
 use Rattle.call_list.specs.declared.calls.Span.{Span}
 use Rattle.call_list.specs.declared.mistakes.Mistake.{Mistake}
+use Rattle.call_list.specs.declared.mistakes.Mistake.TheVariants.{MissingWord}
 use Rattle.call_list.specs.Line.{contents}
-use Rattle.call_list.specs.Calls.{all_as, end_to_end, parts}
+use Rattle.call_list.specs.Calls.{word_as, all_as, end_to_end, parts}
 use Rattle.call_list.specs.Values.{◌then◌}
 
-content_there : (ws : List (Bor (List ℕ))) (k : ℕ) (d : Bor (List ℕ)) → k < length ws → get_or (contents ws) k [] ≡ (get_or ws k d).now
-content_there ws k d h = get_or-map (λ (s : Bor (List ℕ)). s.now) ws k d [] h
+module _ (ws : List (Bor (List ℕ))) (k : ℕ) where
+  pub content_there : (d : Bor (List ℕ)) → k < length ws → get_or (contents ws) k [] ≡ (get_or ws k d).now
+  content_there d h = get_or-map (λ (s : Bor (List ℕ)). s.now) ws k d [] h
+
+  -- what a rule reads at a place with a word, and behind the last
+  pub word_there : {X : Type 0} (rule : ℕ → List ℕ → Result X Mistake) (d : Bor (List ℕ)) → k < length ws → rule k (get_or ws k d).now ≡ word_as rule (contents ws) k
+  word_there rule d h = rw (lt-ltb k (length (contents ws)) (rw (length-map ws (λ (s : Bor (List ℕ)). s.now)) h)) (ap (rule k) (sym (content_there d h)))
+
+  pub word_missing : {X : Type 0} (rule : ℕ → List ℕ → Result X Mistake) → length ws ≤ k → Err (MissingWord k) ≡ word_as rule (contents ws) k
+  word_missing rule h = rw (le-ltb k (length (contents ws)) (rw (length-map ws (λ (s : Bor (List ℕ)). s.now)) h))
 
 -- the words from `from` on, each with its number
 abbrev pub numbered : ℕ → List (Bor (List ℕ)) → List (ℕ × Bor (List ℕ))

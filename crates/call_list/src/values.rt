@@ -1,13 +1,12 @@
 //! What one word stands for: a number, bytes, a pair of numbers.
-ghost use Rattle.std.specs.Prelude.{◌≡◌, ◌==◌, position, vec_items};
+ghost use Rattle.std.specs.Prelude.{◌≡◌, ◌==◌, ◌^◌, ◌≤◌, position, vec_items, MatchOption};
 ghost use Rattle.call_list.specs.Line.{every};
-ghost use Rattle.call_list.specs.Values.{is_digit, is_hex, number_of, hex_of, pair_of, Reads};
+ghost use Rattle.call_list.specs.Values.{is_digit, is_hex, value_of, number_of, hex_of, pair_of, Reads};
 
 use crate::calls::Span;
 use crate::mistakes::Mistake;
 use hex::FromHexError;
 use std::alloc::Global;
-use std::str::from_utf8;
 
 /// A word of a line, with its number in the line, for the mistake.
 #[derive(Clone, Copy)]
@@ -20,6 +19,16 @@ fn all_digits(bytes: &[u8]) -> bool
     ensures { result ≡ every is_digit bytes.now }
 {
     bytes.iter().all(|b| b.is_ascii_digit())
+}
+
+/// The value of digits, where it fits.
+fn digits_value(digits: &[u8]) -> Option<u64>
+    ensures { MatchOption result (2 ^ 64 ≤ value_of digits.now) (λ n. n ≡ value_of digits.now) }
+{
+    digits.iter().try_fold(0u64, |n, b| {
+        n.checked_mul(10)?
+            .checked_add(u64::from(b.saturating_sub(b'0')))
+    })
 }
 
 // The test that `hex::decode` lacks: it takes capitals too.
@@ -38,17 +47,13 @@ fn comma(bytes: &[u8]) -> Option<usize>
 
 impl Word<'_> {
     /// The value of decimal digits.
-    #[tactic(auto, using(crate::proofs::Digits::none_of_no_text))]
     pub fn number(&self) -> Result<u64, Mistake>
         ensures { result ≡ number_of self.now.index self.now.bytes.now }
     {
-        let index = self.index;
-        match from_utf8(self.bytes) {
-            Ok(digits) if !digits.is_empty() && all_digits(self.bytes) => {
-                digits.parse().map_err(|_| Mistake::NumberTooLarge(index))
-            }
-            _ => Err(Mistake::NotANumber(index)),
+        if self.bytes.is_empty() || !all_digits(self.bytes) {
+            return Err(Mistake::NotANumber(self.index));
         }
+        digits_value(self.bytes).ok_or(Mistake::NumberTooLarge(self.index))
     }
 
     /// The bytes of a word of digits; `-` stands for none.

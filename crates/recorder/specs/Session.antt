@@ -1,9 +1,9 @@
--- What each call of a list answers and leaves.
+-- What each call of a list answers and leaves, over a session whose writer, if it has one, is as its making
+-- and its calls leave it.
 use Rattle.std.specs.Prelude.{◌≡◌, ℕ, ◌*◌, min, Bool, ◌≢◌, ◌⊎◌, List, map, length, take, replicate, Ok, Err, vec_items, Result}
 use Rattle.std.specs.Option.{unwrap_or}
 use Rattle.blob.specs.Bytes.{laid}
-use Rattle.blobs.specs.contracts.flat.calls.FlatBlobBlob.TheImpl as impl_blob
-use Rattle.blobs.specs.contracts.flat.calls.FlatBlobReadable.TheImpl as impl_readable
+use Rattle.blobs.specs.contracts.flat.calls.FlatBlobBlob.TheImpl.{ghosts}
 use Rattle.blobs.specs.declared.flat.FlatBlob.{FlatBlob}
 use Rattle.blobs.specs.declared.flat.StartError.{StartError}
 use Rattle.blobs.specs.Flat.{Starts, fresh, disk_of}
@@ -14,7 +14,7 @@ use Rattle.buffer.specs.Tip.{buffered}
 use Rattle.writer.specs.declared.sync_state.SyncState.{SyncState}
 use Rattle.writer.specs.declared.write.Write.{Write}
 use Rattle.writer.specs.Steps as steps
-use Rattle.writer.specs.Steps.{State, ChecksCapacity, made}
+use Rattle.writer.specs.Steps.{State, Consistent, ChecksCapacity, made}
 use Rattle.writer.specs.View.{view}
 use Rattle.call_list.specs.Calls.{PlainCall, flat, writer, write, try_write, resize, sync, read, size, needs_sync, blob, boxes}
 use Rattle.call_list.specs.declared.calls.Span.{Span}
@@ -28,9 +28,10 @@ use Rattle.recorder.specs.declared.answer.Problem.TheVariants.{NoBlob, NoWriter,
 use Rattle.recorder.specs.declared.session.Session.{Session}
 use Rattle.recorder.specs.declared.session.Session.TheVariants.{Empty, Free, Writing}
 
--- A writer over a flat blob.
-abbrev pub FlatWrite : Type 0
-FlatWrite = Write FlatBlob impl_blob.ghosts impl_readable.ghosts
+abbrev pub Sane : Session → Type 0
+Sane Empty = Unit {0}
+Sane (Free b) = Unit {0}
+Sane (Writing w) = Consistent (view ghosts.disk w)
 
 -- An area with as much of the content and of the durable image as fits laid into each half.
 abbrev pub halves : List ℕ → ℕ → List ℕ → List ℕ → List ℕ
@@ -132,7 +133,7 @@ Copies boxes = Unit {0}
 abbrev pub OnWriter : PlainCall → Session → Result Told Problem → Session → Type 0
 OnWriter call Empty r t = (r ≡ Err NoWriter) × (t ≡ Empty)
 OnWriter call (Free b) r t = (r ≡ Err NoWriter) × (t ≡ Free b)
-OnWriter call (Writing w) (Ok a) t = (w' : FlatWrite) × (t ≡ Writing w') × Does call (view w) a (view w')
+OnWriter call (Writing w) (Ok a) t = (w' : Write FlatBlob) × (t ≡ Writing w') × Does call (view ghosts.disk w) a (view ghosts.disk w')
 OnWriter call (Writing w) (Err p) t = (p ≡ OutOfMemory) × Copies call × (t ≡ Writing w)
 
 -- A new flat blob takes the place of whatever was there, also where the check refuses its start. Images of
@@ -149,7 +150,7 @@ MakesFlat limit content durable s (Err p) t =
 abbrev pub MakesWriter : ℕ → Session → Result Told Problem → Session → Type 0
 MakesWriter n Empty r t = (r ≡ Err NoBlob) × (t ≡ Empty)
 MakesWriter n (Free b) r t =
-    ((w : FlatWrite) × (t ≡ Writing w) × (view w ≡ made (disk_of (shape b)) n))
+    ((w : Write FlatBlob) × (t ≡ Writing w) × (view ghosts.disk w ≡ made (disk_of (shape b)) n))
     × ((q : Result Unit Error) × (r ≡ Ok (result_told q)) × ChecksCapacity n q)
 MakesWriter n (Writing w) r t = (r ≡ Err BlobHeld) × (t ≡ Writing w)
 

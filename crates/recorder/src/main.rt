@@ -1,7 +1,8 @@
 // Performs a call list on a writer over a flat blob, and prints one line for each call.
 #![tactic(auto)]
 
-ghost use Rattle.std.specs.Prelude.{◌≡◌};
+ghost use Rattle.std.specs.Prelude.{◌≡◌, ◌==◌};
+ghost use Rattle.recorder.specs.Session.{Sane};
 
 use answer::{Answer, Failure};
 use call_list::read_line;
@@ -27,20 +28,23 @@ fn input(rt: &HostRuntime) -> anyhow::Result<Vec<u8>> {
 }
 
 // What a line of the list answers. A line to be skipped answers nothing.
-fn answer_of(heap: Global, session: &mut Session, line: &[u8]) -> Result<Option<Answer>, Failure> {
+fn answer_of(heap: Global, session: &mut Session, line: &[u8]) -> Result<Option<Answer>, Failure>
+    requires { Sane session.old }
+    ensures { Sane session.new }
+{
     let Some(call) = read_line(heap, line)? else {
         return Ok(None);
     };
     Ok(Some(session.perform(heap, &call)?))
 }
 
-// Performs a line of the list and prints what it answers.
-fn perform(
-    rt: &HostRuntime,
-    session: &mut Session,
-    number: u64,
-    line: &[u8],
-) -> anyhow::Result<()> {
+// Performs a line of the list and prints what it answers. Inlined into the loop over the lines: a function clears its
+// locals at each entry, and those that printing takes are large.
+#[inline(always)]
+fn perform(rt: &HostRuntime, session: &mut Session, number: u64, line: &[u8]) -> anyhow::Result<()>
+    requires { Sane session.old }
+    ensures { Sane session.new }
+{
     match answer_of(rt.alloc(), session, line) {
         Ok(None) => {}
         Ok(Some(answer)) => println!(rt; "{answer}")?,
@@ -51,11 +55,17 @@ fn perform(
     Ok(())
 }
 
-// The text behind the last newline is a line too; where nothing stands there it is skipped.
+// The text behind the last newline is a line too. An empty line answers nothing and is passed over here already.
 fn run(rt: &HostRuntime) -> anyhow::Result<()> {
     let text = input(rt)?;
     let mut session = Session::Empty;
-    for (i, line) in text.as_slice().split(|byte| *byte == b'\n').enumerate() {
+    // `split` cuts where its closure says. The clause says where that is, and holds the closure to it.
+    let lines = text.as_slice().split(
+        |byte| -> bool
+            ensures { result ≡ (byte.now == 10) }
+        { *byte == b'\n' },
+    );
+    for (i, line) in lines.enumerate().filter(|(_, line)| !line.is_empty()) {
         perform(rt, &mut session, i as u64 + 1, line)?;
     }
     Ok(())

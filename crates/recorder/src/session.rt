@@ -1,11 +1,13 @@
 // What the calls of a list are performed on.
+ghost use Rattle.blobs.specs.contracts.flat.calls.FlatBlobBlob.TheImpl.{ghosts};
+ghost use Rattle.writer.specs.Steps.{Consistent};
 ghost use Rattle.writer.specs.View.{view};
 ghost use Rattle.blob.specs.Bytes.{laid};
 ghost use Rattle.std.specs.Prelude.{◌≡◌, ◌+◌, ◌*◌, ◌≤◌, min, length, take, IfOk, MatchResult};
 ghost use Rattle.call_list.specs.Calls.{plain};
 ghost use Rattle.recorder.specs.declared.answer.Failure.TheVariants as failure;
 ghost use Rattle.recorder.specs.declared.answer.Problem.TheVariants.{OutOfMemory};
-ghost use Rattle.recorder.specs.Session.{halves, area_of, pieces, told, said, drawn, drawing_of, images, images_of, ReadsBack, Does, Copies, MakesFlat, MakesWriter, Shows, Performs};
+ghost use Rattle.recorder.specs.Session.{Sane, halves, area_of, pieces, told, said, drawn, drawing_of, images, images_of, ReadsBack, Does, Copies, MakesFlat, MakesWriter, Shows, Performs};
 
 use crate::answer::{Answer, Drawing, Failure, Images, Problem};
 use blob::area::put;
@@ -88,7 +90,8 @@ fn pieces_of(heap: Global, spans: &[Span]) -> Result<Vec<Piece>, AllocError>
 }
 
 fn drawing(heap: Global, writer: &Write<FlatBlob>) -> Result<Drawing, AllocError>
-    ensures { IfOk result (λ d. drawn d ≡ drawing_of (view writer.now)) }
+    requires { Consistent (view ghosts.disk writer.now) }
+    ensures { IfOk result (λ d. drawn d ≡ drawing_of (view ghosts.disk writer.now)) }
 {
     Ok(Drawing {
         offset: writer.tip_offset(),
@@ -107,7 +110,9 @@ impl Session {
         limit: u64,
         images: &Images<&[u8]>,
     ) -> Result<Answer, Failure>
-        ensures { MakesFlat limit images.now.content.now images.now.durable.now self.old (said result) self.new }
+        requires { Sane self.old }
+        ensures makes { MakesFlat limit images.now.content.now images.now.durable.now self.old (said result) self.new }
+        ensures sane { Sane self.new }
     {
         if images.content.len() != images.durable.len() {
             return Err(Problem::UnequalImages.into());
@@ -122,7 +127,9 @@ impl Session {
 
     // A writer on the blob.
     fn make_writer(&mut self, capacity: u64) -> Result<Answer, Failure>
-        ensures { MakesWriter capacity self.old (said result) self.new }
+        requires { Sane self.old }
+        ensures makes { MakesWriter capacity self.old (said result) self.new }
+        ensures sane { Sane self.new }
     {
         match mem::replace(self, Session::Empty) {
             Session::Empty => Err(Problem::NoBlob.into()),
@@ -152,7 +159,9 @@ impl Session {
 
     // Performs one call.
     pub fn perform(&mut self, heap: Global, call: &Call) -> Result<Answer, Failure>
-        ensures { Performs self.old (plain call.now) (said result) self.new }
+        requires { Sane self.old }
+        ensures performs { Performs self.old (plain call.now) (said result) self.new }
+        ensures sane { Sane self.new }
     {
         match call {
             Call::Flat {
@@ -176,7 +185,9 @@ impl Session {
 
 // Performs a call of a writer.
 fn perform_on(heap: Global, writer: &mut Write<FlatBlob>, call: &Call) -> Result<Answer, Failure>
-    ensures { MatchResult (said result) (λ a. Does (plain call.now) (view writer.old) a (view writer.new)) (λ p. (p ≡ OutOfMemory) × Copies (plain call.now) × (writer.new ≡ writer.old)) }
+    requires { Consistent (view ghosts.disk writer.old) }
+    ensures does { MatchResult (said result) (λ a. Does (plain call.now) (view ghosts.disk writer.old) a (view ghosts.disk writer.new)) (λ p. (p ≡ OutOfMemory) × Copies (plain call.now) × (writer.new ≡ writer.old)) }
+    ensures consistent { Consistent (view ghosts.disk writer.new) }
 {
     match call {
         Call::WriteAt {
@@ -220,7 +231,9 @@ fn read_back(
     place: u64,
     len: u64,
 ) -> Result<Answer, Failure>
-    ensures { MatchResult (said result) (λ a. ReadsBack (view writer.old) place len a (view writer.new)) (λ p. (p ≡ OutOfMemory) × (writer.new ≡ writer.old)) }
+    requires { Consistent (view ghosts.disk writer.old) }
+    ensures reads { MatchResult (said result) (λ a. ReadsBack (view ghosts.disk writer.old) place len a (view ghosts.disk writer.new)) (λ p. (p ≡ OutOfMemory) × (writer.new ≡ writer.old)) }
+    ensures consistent { Consistent (view ghosts.disk writer.new) }
 {
     writer.check_read(place, len)?;
     let mut out = vec![in heap; 0; len as usize]?;

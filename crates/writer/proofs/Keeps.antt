@@ -8,7 +8,7 @@ use Rattle.writer.specs.declared.sync_state.SyncState.{SyncState}
 use Rattle.writer.specs.declared.sync_state.SyncState.TheVariants.{Clean, Dirty, Pending}
 use Rattle.writer.specs.declared.sync_state.WriteOptions.{WriteOptions}
 use Rattle.writer.specs.declared.sync_state.WriteOptions.TheVariants as options
-use Rattle.writer.specs.Stores.{Store, Outcome, Then, WaitsFrom, Waits, WritesFrom, StoreWrites, StoreResizes, StoreSyncs}
+use Rattle.writer.specs.Stores.{Store, Outcome, Then, WaitsFrom, Waits, WritesFrom, StoreWrites, StoreResizes, SyncsFrom, StoreSyncs}
 
 -- no part of a writer's call moves the blob's limit
 abbrev pub Limits : (Store → Outcome → Store → Type 0) → Type 0
@@ -60,3 +60,11 @@ store_writes_content o step p bs s t filled (m, w, k) =
 
 pub store_resizes_content : (n : ℕ) (s t : Store) → StoreResizes n s (Ok tt) t → t.disk.content ≡ resized s.disk.content n
 store_resizes_content n s t (m, w, k) = k.0.1.content ∙ ap (λ c. resized c n) (waits_content s m w)
+
+syncs_from_content : (y : SyncState) (s t : Store) → SyncsFrom y s (Ok tt) t → t.disk.content ≡ s.disk.content
+syncs_from_content Clean s t k = ap (λ (s : Store). s.disk.content) k
+syncs_from_content Dirty s t k = k.0.content
+syncs_from_content Pending s t k = absurd k
+
+pub store_syncs_content : (s t : Store) → StoreSyncs s (Ok tt) t → t.disk.content ≡ s.disk.content
+store_syncs_content s t (m, w, k) = syncs_from_content m.sync m t k ∙ waits_content s m w

@@ -2,8 +2,8 @@
 ghost use Rattle.std.specs.Prelude.{◌≡◌, true, false, length, MatchResult};
 ghost use Rattle.buffer.specs.declared.error.Error.TheVariants.{Closed};
 ghost use Rattle.buffer.specs.Tip.{buffered};
-ghost use Rattle.writer.specs.Steps.{Consistent, Admits, Concludes, WriteAt, TryWriteAt, ResizeTo, SyncAll, ChecksRead, ReadAt, whole, ChecksCapacity, made, size, needs_sync};
-ghost use Rattle.writer.specs.Parts.{parts};
+ghost use Rattle.writer.specs.Steps.{Consistent, Admits, Concludes, WriteAt, TryWriteAt, ResizeTo, SyncAll, ChecksRead, ReadAt, ChecksCapacity, made, size, needs_sync};
+ghost use Rattle.writer.specs.View.{view};
 
 use crate::boxes::Boxes;
 use crate::sync_state::SyncState;
@@ -14,11 +14,10 @@ use buffer::pieces::PieceList;
 use buffer::tip::{Buffer, MAX_CAPACITY};
 
 #[derive(Drop)]
-pub struct Write<B: Blob> {
+pub struct Write<B> {
     boxes: Boxes<B>,
     // A fault has closed the writer. A flag and no variant of an enum: the parts of a closed writer are shown too.
     closed: bool,
-    ghost consistent: { Consistent (whole (parts B.disk boxes) closed) },
 }
 
 // Whether a writer can be made with a tip of this capacity.
@@ -42,12 +41,11 @@ fn conclude(closed: &mut bool, outcome: Result<(), Fault>) -> Result<(), Error>
 }
 
 impl<B: Blob> Write<B> {
-    ghost use Rattle.writer.specs.View.{view};
-
     // A writer at the end of the blob's content. A capacity that the check refuses becomes the nearest one
     // that it takes.
     pub fn new(blob: B, capacity: usize) -> Write<B>
-        ensures { view result ≡ made (B.disk blob) capacity }
+        ensures made { view B.disk result ≡ made (B.disk blob) capacity }
+        ensures consistent { Consistent (view B.disk result) }
     {
         // No content exceeds the limit, so this is the content's length.
         let offset = blob.len().min(blob.limit());
@@ -66,7 +64,8 @@ impl<B: Blob> Write<B> {
 
     // The length of the capture, buffered bytes included; 0 once the writer is closed.
     pub fn size(&self) -> u64
-        ensures { result ≡ size (view self.now) }
+        requires { Consistent (view B.disk self.now) }
+        ensures { result ≡ size (view B.disk self.now) }
     {
         if self.closed {
             return 0;
@@ -76,7 +75,8 @@ impl<B: Blob> Write<B> {
 
     // Whether bytes are buffered or changes of the blob need a sync; no once the writer is closed.
     pub fn needs_sync(&self) -> bool
-        ensures { result ≡ needs_sync (view self.now) }
+        requires { Consistent (view B.disk self.now) }
+        ensures { result ≡ needs_sync (view B.disk self.now) }
     {
         !self.closed && (!self.boxes.buffer.is_empty() || !self.boxes.sync_state.is_clean())
     }
@@ -93,7 +93,7 @@ impl<B: Blob> Write<B> {
 
     // Whether a write of the list at `place` is refused.
     fn admit(&self, place: u64, list: &PieceList) -> Result<(), Error>
-        ensures { Admits (view self.now) place (length list.now.area.now) list.now.pieces.now result }
+        ensures { Admits (view B.disk self.now) place (length list.now.area.now) list.now.pieces.now result }
     {
         let end = place
             .checked_add(list.check()? as u64)
@@ -107,7 +107,9 @@ impl<B: Blob> Write<B> {
     // Writes the pieces of the list end to end from `place` on. They go into the tip where they merge; else
     // the tip is flushed, or they are written to the blob directly.
     pub fn write_at(&mut self, place: u64, list: &PieceList) -> Result<(), Error>
-        ensures { WriteAt (view self.old) place list.now.area.now list.now.pieces.now result (view self.new) }
+        requires { Consistent (view B.disk self.old) }
+        ensures step { WriteAt (view B.disk self.old) place list.now.area.now list.now.pieces.now result (view B.disk self.new) }
+        ensures consistent { Consistent (view B.disk self.new) }
     {
         self.check_open()?;
         self.admit(place, list)?;
@@ -118,7 +120,9 @@ impl<B: Blob> Write<B> {
     // Merges the run into the tip if it fits there, and answers whether it did. It asks nothing of the blob
     // but its limit. A place and a run beside it, as the ported code has them.
     pub fn try_write_at(&mut self, place: u64, run: &[u8]) -> bool
-        ensures { TryWriteAt (view self.old) place run.now result (view self.new) }
+        requires { Consistent (view B.disk self.old) }
+        ensures step { TryWriteAt (view B.disk self.old) place run.now result (view B.disk self.new) }
+        ensures consistent { Consistent (view B.disk self.new) }
     {
         if self.closed {
             return false;
@@ -135,7 +139,9 @@ impl<B: Blob> Write<B> {
 
     // Cuts the capture to `len` bytes, or adds zeros up to there.
     pub fn resize(&mut self, len: u64) -> Result<(), Error>
-        ensures { ResizeTo (view self.old) len result (view self.new) }
+        requires { Consistent (view B.disk self.old) }
+        ensures step { ResizeTo (view B.disk self.old) len result (view B.disk self.new) }
+        ensures consistent { Consistent (view B.disk self.new) }
     {
         self.check_open()?;
         if len > self.boxes.blob.limit() {
@@ -147,7 +153,9 @@ impl<B: Blob> Write<B> {
 
     // Makes the whole capture durable.
     pub fn sync(&mut self) -> Result<(), Error>
-        ensures { SyncAll (view self.old) result (view self.new) }
+        requires { Consistent (view B.disk self.old) }
+        ensures step { SyncAll (view B.disk self.old) result (view B.disk self.new) }
+        ensures consistent { Consistent (view B.disk self.new) }
     {
         self.check_open()?;
         let outcome = self.boxes.sync();
@@ -156,7 +164,8 @@ impl<B: Blob> Write<B> {
 
     // Whether a read of `n` bytes at `place` is refused.
     pub fn check_read(&self, place: u64, n: u64) -> Result<(), Error>
-        ensures { ChecksRead (view self.now) place n result }
+        requires { Consistent (view B.disk self.now) }
+        ensures { ChecksRead (view B.disk self.now) place n result }
     {
         self.check_open()?;
         let end = place.checked_add(n).ok_or(Error::OffsetOverflow)?;
@@ -168,7 +177,9 @@ impl<B: Blob> Write<B> {
 
     // Fills `out` with the bytes of the capture from `place` on.
     pub fn read_at(&mut self, place: u64, out: &mut [u8]) -> Result<(), Error>
-        ensures { ReadAt (view self.old) place out.old result (view self.new) out.new }
+        requires { Consistent (view B.disk self.old) }
+        ensures step { ReadAt (view B.disk self.old) place out.old result (view B.disk self.new) out.new }
+        ensures consistent { Consistent (view B.disk self.new) }
     {
         self.check_read(place, out.len() as u64)?;
         self.boxes.read_at(place, out)
@@ -183,6 +194,7 @@ impl<B: Blob> Write<B> {
 
     // The buffered bytes.
     pub fn tip(&self) -> &[u8]
+        requires { Consistent (view B.disk self.now) }
         ensures { result.now ≡ buffered self.now.boxes.buffer }
     {
         self.boxes.buffer.buffered()

@@ -8,7 +8,14 @@ pub returns-in_err-check_capacity-in-Free : goal.returns-in_err-check_capacity-i
 returns-in_err-check_capacity-in-Free c =
     let r = c.from_residual.result in
     let e = c.in_err-check_capacity-in-Free.field-0.0 in
-    writer_made _ _ c.in-Free.blob c.new.result (said r) (Err e) (sym c.in-Free.ensures.value) c.new.ensures (said_refused r e c.from_residual.ensures.1) c.in_err-check_capacity-in-Free.ensures
+    record {
+      makes = writer_made _ _ c.in-Free.blob c.new.result (said r) (Err e) (sym c.in-Free.ensures.value) c.new.ensures.made (said_refused r e c.from_residual.ensures.1) c.in_err-check_capacity-in-Free.ensures;
+      sane = c.new.ensures.consistent;
+    }
 
 pub returns-in_ok-check_capacity-in-Free : goal.returns-in_ok-check_capacity-in-Free
-returns-in_ok-check_capacity-in-Free c = writer_made _ _ c.in-Free.blob c.new.result _ (Ok tt) (sym c.in-Free.ensures.value) c.new.ensures refl c.in_ok-check_capacity-in-Free.ensures
+returns-in_ok-check_capacity-in-Free c =
+    record {
+      makes = writer_made _ _ c.in-Free.blob c.new.result _ (Ok tt) (sym c.in-Free.ensures.value) c.new.ensures.made refl c.in_ok-check_capacity-in-Free.ensures;
+      sane = c.new.ensures.consistent;
+    }

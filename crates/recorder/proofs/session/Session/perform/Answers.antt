@@ -34,5 +34,8 @@ returns-in-Writing c =
     let call = c.args.call.now in
     let w' = c.perform_on.new.writer in
     let r = said c.perform_on.result in
-    let done = moved (plain call) c.args.self.now c.in-Writing.writer w' r c.in-Writing.is c.perform_on.ensures in
-    performed call c.args.self.now r (Writing w') c.in_default.not-Flat c.in_default.not-Writer c.in_default.not-Blob done
+    let done = moved (plain call) c.args.self.now c.in-Writing.writer w' r c.in-Writing.is c.perform_on.ensures.does in
+    record {
+      performs = performed call c.args.self.now r (Writing w') c.in_default.not-Flat c.in_default.not-Writer c.in_default.not-Blob done;
+      sane = c.perform_on.ensures.consistent;
+    }

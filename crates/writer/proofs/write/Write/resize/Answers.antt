@@ -7,17 +7,15 @@ use Rattle.writer.proofs.Ready.{resizes_stays}
 use Rattle.writer.proofs.Concluding.{ready, stays_consistent}
 use Rattle.writer.proofs.write.Write.resize.Goals as goal
 
-pub invariant_of-self : goal.invariant_of-self
-invariant_of-self g c =
-    let s = view c.args.self.now in
+pub returns : goal.returns
+returns g c =
+    let s = view g.B.Blob.disk c.args.self.now in
     let o = c.resize-outcome.result in
     let b = parts g.B.Blob.disk c.resize-outcome.new.self in
     let given = c.limit.ensures in
     let room : c.args.len ≤ limit s = omega arith in
     record {
-      consistent = stays_consistent s c.args.self.now.consistent b c.conclude.new.closed o c.conclude.result c.conclude.ensures
-          (resizes_stays c.args.len s.boxes o b (ready s c.args.self.now.consistent (c.in_ok-check_open.ensures)) room c.resize-outcome.ensures);
+      step = grind (arith, common_steps);
+      consistent = stays_consistent s c.requires b c.conclude.new.closed o c.conclude.result c.conclude.ensures
+          (resizes_stays c.args.len s.boxes o b (ready s c.requires (c.in_ok-check_open.ensures)) room c.resize-outcome.ensures);
     }
-
-pub returns : goal.returns
-returns g c = grind (arith, common_steps)
