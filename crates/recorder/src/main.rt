@@ -3,6 +3,7 @@
 
 ghost use Rattle.std.specs.Prelude.{◌≡◌, ◌==◌};
 ghost use Rattle.recorder.specs.Session.{Sane};
+ghost use Rattle.recorder.specs.Lines.{NoNewline};
 
 use answer::{Answer, Failure};
 use call_list::read_line;
@@ -38,16 +39,11 @@ fn answer_of(heap: Global, session: &mut Session, line: &[u8]) -> Result<Option<
     Ok(Some(session.perform(heap, &call)?))
 }
 
-// Performs a line of the list and prints what it answers. Inlined into the loop over the lines: a function clears its
-// locals at each entry, and those that printing takes are large.
+// Prints what a line answers.
 #[inline(always)]
-fn perform(rt: &HostRuntime, session: &mut Session, number: u64, line: &[u8]) -> anyhow::Result<()>
-    requires { Sane session.old }
-    ensures { Sane session.new }
-{
-    match answer_of(rt.alloc(), session, line) {
-        Ok(None) => {}
-        Ok(Some(answer)) => println!(rt; "{answer}")?,
+fn print(rt: &HostRuntime, number: u64, answer: Result<Answer, Failure>) -> anyhow::Result<()> {
+    match answer {
+        Ok(answer) => println!(rt; "{answer}")?,
         Err(Failure::Refused(error)) => println!(rt; "refused {error}")?,
         Err(Failure::BadStart(error)) => println!(rt; "refused {error}")?,
         Err(Failure::Problem(problem)) => println!(rt; "line {number}: {problem}")?,
@@ -55,7 +51,21 @@ fn perform(rt: &HostRuntime, session: &mut Session, number: u64, line: &[u8]) ->
     Ok(())
 }
 
-// The text behind the last newline is a line too. An empty line answers nothing and is passed over here already.
+// Performs a line of the list and prints what it answers. Inlined into the loop over the lines, and printing apart from
+// it: a function clears its locals at each entry, those that printing takes are large, and a line may print nothing.
+#[inline(always)]
+fn perform(rt: &HostRuntime, session: &mut Session, number: u64, line: &[u8]) -> anyhow::Result<()>
+    requires sane { Sane session.old }
+    requires line { NoNewline line.now }
+    ensures { Sane session.new }
+{
+    match answer_of(rt.alloc(), session, line).transpose() {
+        Some(answer) => print(rt, number, answer),
+        None => Ok(()),
+    }
+}
+
+// The text behind the last newline is a line too; where nothing stands there it is skipped.
 fn run(rt: &HostRuntime) -> anyhow::Result<()> {
     let text = input(rt)?;
     let mut session = Session::Empty;
@@ -65,7 +75,7 @@ fn run(rt: &HostRuntime) -> anyhow::Result<()> {
             ensures { result ≡ (byte.now == 10) }
         { *byte == b'\n' },
     );
-    for (i, line) in lines.enumerate().filter(|(_, line)| !line.is_empty()) {
+    for (i, line) in lines.enumerate() {
         perform(rt, &mut session, i as u64 + 1, line)?;
     }
     Ok(())

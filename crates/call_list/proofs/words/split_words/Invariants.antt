@@ -1,10 +1,9 @@
-use Rattle.std.proofs.Common.{◌≡◌, ◌++◌, length, vec_items}
-use Rattle.call_list.specs.Line.{words_of, contents}
+use Rattle.std.proofs.Common.{◌≡◌, ◌≤◌, [], ◌++◌, drop, vec_items}
+use Rattle.std.specs.List.{between}
+use Rattle.call_list.specs.Line.{split, contents}
 use Rattle.call_list.proofs.words.split_words.Given as goal
 
--- the words so far, and then those of what is left, are the words of the line
-abbrev pub invariant-loop-start : goal.invariant-loop-start
-invariant-loop-start l = contents (vec_items l.words) ++ words_of l.rest ≡ words_of l.line
-
-abbrev pub decreases-loop-start : goal.decreases-loop-start
-decreases-loop-start l = length l.rest
+-- the words so far, and then what is left, are the words of the line
+abbrev pub invariant-loop-i : goal.invariant-loop-i
+invariant-loop-i l =
+    (l.start ≤ l.i) × (contents (vec_items l.words) ++ split (between l.start l.i l.line) (drop l.i l.line) ≡ split [] l.line)
