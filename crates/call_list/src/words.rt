@@ -21,8 +21,8 @@ fn add_word<'a>(words: &mut Vec<&'a [u8]>, word: &'a [u8]) -> Result<(), AllocEr
 }
 
 /// The words of a line.
-// One pass over the bytes. An iterator's `split` gives a part for each blank, and a search for each word's ends begins
-// anew at each: both took twice the time, the one where blanks are many, the other where words are.
+// One pass over the bytes. `split` gives a part for each blank, and a search for the ends of each word begins anew: the
+// one is slow where blanks are many, the other where words are.
 pub fn split_words<'a>(heap: Global, line: &'a [u8]) -> Result<Vec<&'a [u8]>, AllocError>
     ensures value { IfOk result (λ words. contents words.items ≡ words_of line.now) }
     ensures cut { IfOk result (λ words. Words line.now (contents words.items)) }

@@ -22,7 +22,7 @@ pub(crate) struct Boxes<B> {
     pub(crate) buffer: Buffer,
 }
 
-// `Ready` stands in each contract here and not in the type: after a fault the tip and the blob do not meet it any
+// `Ready` stands in most contracts here and not in the type: after a fault the tip and the blob do not meet it any
 // more, and the writer is closed. A run and its place, and that it ends within the limit, are asked of each part as the
 // ported code passes them: one check, `admit`, answers for all.
 impl<B: Blob> Boxes<B> {
