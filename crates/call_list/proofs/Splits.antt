@@ -5,7 +5,7 @@ use Rattle.std.proofs.lemmas.List.{map_push, drop_more, drop_all}
 use Rattle.std.proofs.lemmas.List.Edits.{between_more}
 use Rattle.call_list.specs.Line.{blank, ended, split, contents}
 
-ended_some : (w : List ℕ) → 0 < length w → ended w ≡ w ∷ []
+pub ended_some : (w : List ℕ) → 0 < length w → ended w ≡ w ∷ []
 ended_some [] h = absurd (omega arith)
 ended_some (b ∷ bs) h = refl
 
@@ -16,11 +16,11 @@ pub added_none : (ws : List (Bor (List ℕ))) (w : List ℕ) → length w ≡ 0 
 added_none ws [] h = sym (append-nil (contents ws))
 added_none ws (b ∷ bs) h = absurd (omega arith)
 
-none_between : (line : List ℕ) (i : ℕ) → between i i line ≡ []
+pub none_between : (line : List ℕ) (i : ℕ) → between i i line ≡ []
 none_between line i = let z : i - i ≡ 0 = omega arith in ap (λ n. take n (drop i line)) z
 
 module _ (ws all : List (List ℕ)) (line : List ℕ) (s i : ℕ) (h : i < length line) (e : ws ++ split (between s i line) (drop i line) ≡ all) where
-  at_next : ws ++ split (between s i line) (get_or line i 0 ∷ drop (i + 1) line) ≡ all
+  pub at_next : ws ++ split (between s i line) (get_or line i 0 ∷ drop (i + 1) line) ≡ all
   at_next = ap (λ l. ws ++ split (between s i line) l) (sym (drop_more line i 0 h)) ∙ e
 
   pub at_blank : (ws' : List (List ℕ)) (s' : ℕ) → blank (get_or line i 0) ≡ true → ws' ≡ ws ++ ended (between s i line) → s' ≡ i + 1 → ws' ++ split (between s' (i + 1) line) (drop (i + 1) line) ≡ all

@@ -51,8 +51,9 @@ fn print(rt: &HostRuntime, number: u64, answer: Result<Answer, Failure>) -> anyh
     Ok(())
 }
 
-// Performs a line of the list and prints what it answers. Inlined into the loop over the lines, and printing apart from
-// it: a function clears its locals at each entry, those that printing takes are large, and a line may print nothing.
+// Performs a line of the list and prints what it answers. Both are inlined into the loop over the lines, and printing is
+// a function of its own: a function's locals are cleared where it begins, also where it is inlined, those of printing are
+// large, and a line may print nothing.
 #[inline(always)]
 fn perform(rt: &HostRuntime, session: &mut Session, number: u64, line: &[u8]) -> anyhow::Result<()>
     requires sane { Sane session.old }
