@@ -23,18 +23,22 @@ module _ {S : Type 0} {steps : S → Option (ℕ × Bor (List ℕ)) → S → Ty
   pub line : (xs : List (ℕ × Bor (List ℕ))) (t u : S) {r : Option (ℕ × Bor (List ℕ))} {x : ℕ × Bor (List ℕ)} → Yields steps s xs t → r ≡ Some x → steps t r u → OnlyLines steps s → NoNewline x.1.now
   line xs t u {r} {x} y is e l = l.at xs t x u y (subst (λ o. steps t o u) is e)
 
+-- What `split` gives lies in front of the first byte that is a newline, or of the end.
 front : (bs line rest : List ℕ) (done : Bool) → MatchBool done (bs ≡ line) ((y : ℕ) × (bs ≡ line ++ (y ∷ rest))) → IsFirstMatchOrLen (λ b. b == 10) bs (length line) → NoNewline line
 front bs line rest true e h = λ k d l. let a = h.0 k d (omega arith) l in grind (arith, common_steps)
 front bs line rest false e h = λ k d l. let a = h.0 k d (omega arith) l in let b = e.1 in grind (arith, common_steps)
 
 module _ {F : Type 0} (g : Mut F (Bor ℕ × Unit {0}) Bool) where
+  -- the closure answers which bytes are newlines
   abbrev Cuts : Enumerate (Split ℕ F) → Type 0
   Cuts s = ComputesKey g (λ b. b == 10) (split_callee (enumerate_source s))
 
+  -- so it goes on from call to call
   kept : (xs : List (ℕ × Bor (List ℕ))) (s t : Enumerate (Split ℕ F)) → Yields (enumerate_steps (split_steps g)) s xs t → Cuts s → Cuts t
   kept [] s t e k = subst Cuts e k
   kept (x ∷ xs) s t e k = kept xs e.0 t e.2 (e.1.0.2 (λ b. b == 10) k).0
 
+  -- and each call gives such a line
   one : (s t : Enumerate (Split ℕ F)) (x : ℕ × Bor (List ℕ)) → enumerate_steps (split_steps g) s (Some x) t → Cuts s → NoNewline x.1.now
   one s t x e k = front (split_rest (enumerate_source s)) x.1.now (split_rest (enumerate_source t)) (split_done (enumerate_source t)) e.0.1 (e.0.2 (λ b. b == 10) k).1
 
